@@ -1,0 +1,5 @@
+pub mod Faults
+pub mod HeldFiles
+pub mod MemorySinks
+pub mod NamedBytes
+pub mod ReadErrors

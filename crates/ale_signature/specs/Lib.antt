@@ -1,2 +1,0 @@
-pub mod Hierarchy
-pub mod Lists
