@@ -1,0 +1,4 @@
+pub mod Bits
+pub mod Pass
+pub mod Paths
+pub mod Via

@@ -1,0 +1,3 @@
+pub mod Has
+pub mod Paths
+pub mod Rows
