@@ -1,0 +1,7 @@
+use Rattle.ale_signature.specs.Declarations.{declared}
+use Rattle.ale_signature.proofs.Acceptance.{accepts_is}
+use Rattle.ale_signature.proofs.DeclaredLemmas.{IsWellNumbered-declared}
+use Rattle.ale_signature.proofs.laws.acceptance_law.Goals as goal
+
+pub returns : goal.returns
+returns c = λ decls. accepts_is (declared decls) (IsWellNumbered-declared decls)

@@ -1,0 +1,7 @@
+use Rattle.std.proofs.Common.{◌≡◌}
+use Rattle.ale_signature.specs.Order.{features}
+use Rattle.ale_signature.specs.Stages.{tabulated}
+use Rattle.ale_signature.proofs.restrictions.feature_lists.Given as goal
+
+abbrev pub invariant-loop-t : goal.invariant-loop-t
+invariant-loop-t l = l.lists.items ≡ tabulated (features l.order) l.t

@@ -1,0 +1,10 @@
+use Rattle.std.proofs.Common.{◌≡◌, ℕ, ◌<◌}
+use Rattle.ale_signature.specs.Order.{approp}
+use Rattle.ale_signature.specs.Stages.{tabulated, HasRestriction}
+use Rattle.ale_signature.proofs.restrictions.restriction_row.Given as goal
+
+abbrev pub invariant-loop-t : goal.invariant-loop-t
+invariant-loop-t l = record {
+  row : l.row.items ≡ tabulated (approp l.order l.f) l.t;
+  there : (u : ℕ) → u < l.t → HasRestriction l.order l.f u;
+}

@@ -1,0 +1,11 @@
+pub mod Accepted
+pub mod Deciding
+pub mod Declarations
+pub mod Hierarchy
+pub mod Laws
+pub mod Lists
+pub mod Names
+pub mod Numbering
+pub mod Order
+pub mod Refusals
+pub mod Stages
