@@ -1,0 +1,11 @@
+pub mod Full
+pub mod FullLists
+pub mod LexSound
+pub mod Lexing
+pub mod Loops
+pub mod Readings
+pub mod Sound
+pub mod SoundLists
+pub mod Spending
+pub mod Terms
+pub mod Words

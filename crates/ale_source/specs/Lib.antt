@@ -1,0 +1,6 @@
+pub mod Grammar
+pub mod Lexemes
+pub mod Nesting
+pub mod Reading
+pub mod Results
+pub mod Terms
