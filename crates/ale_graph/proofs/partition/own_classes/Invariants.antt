@@ -1,0 +1,6 @@
+use Rattle.std.proofs.Common.{◌≡◌}
+use Rattle.ale_signature.specs.Lists.{upto}
+use Rattle.ale_graph.proofs.partition.own_classes.Given as goal
+
+abbrev pub invariant-loop-node : goal.invariant-loop-node
+invariant-loop-node l = l.class.items ≡ upto l.node
