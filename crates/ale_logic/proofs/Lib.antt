@@ -1,0 +1,4 @@
+pub mod Budget
+pub mod Search
+pub mod Step
+pub mod Terms

@@ -1,0 +1,4 @@
+pub mod Descriptions
+pub mod Solutions
+pub mod States
+pub mod Visits

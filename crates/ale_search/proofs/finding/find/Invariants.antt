@@ -1,0 +1,14 @@
+use Rattle.std.proofs.Common.{[], ◌∷◌, ◌-◌}
+use Rattle.ale_signature.specs.Order.{hierarchy}
+use Rattle.ale_logic.specs.Descriptions.{description}
+use Rattle.ale_logic.specs.States.{start}
+use Rattle.ale_search.specs.Views.{waiting_of}
+use Rattle.ale_search.proofs.Progress.{Searching}
+use Rattle.ale_search.proofs.finding.find.Given as goal
+
+abbrev pub invariant-loop-visits : goal.invariant-loop-visits
+invariant-loop-visits l =
+    Searching (hierarchy l.sig) l.budget (start (description l.desc) ∷ []) l.answers.items l.visits (waiting_of l.waiting.items)
+
+abbrev pub decreases-loop-visits : goal.decreases-loop-visits
+decreases-loop-visits l = l.budget - l.visits

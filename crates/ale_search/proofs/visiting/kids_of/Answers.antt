@@ -1,0 +1,5 @@
+use Rattle.ale_signature.specs.Order.{hierarchy}
+use Rattle.ale_search.proofs.visiting.kids_of.Goals as goal
+
+pub returns-in-Take : goal.returns-in-Take
+returns-in-Take c = rw c.in-Take.is (c.taken.ensures (hierarchy c.args.sig.now))

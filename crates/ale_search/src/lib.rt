@@ -1,0 +1,9 @@
+//! The defined search for what satisfies a description: a list of states, of which the first is closed
+//! anew at each visit.
+#![tactic(auto)]
+
+mod finding;
+mod state;
+mod visiting;
+
+pub use finding::{Found, find};
