@@ -1,0 +1,107 @@
+-- What a call of `run` leaves: the status and text that are owed, unless a call of the files or the sink
+-- failed or memory ran out; then a front of the text, or nothing.
+use Rattle.std.specs.Prelude.{◌≡◌, ◌≤◌, true, false, length, ℕ, Option, Some, None, List, [], ◌⊎◌, take}
+use Rattle.std.specs.Io.KnownBytes.{Appends}
+use Rattle.ale_top.specs.declared.status.Status.{Status}
+use Rattle.ale_top.specs.declared.status.Status.TheVariants.{Done, Unfinished, Words, Grammar, Commands, ReadFault, WriteFault, NoMemory}
+use Rattle.ale_signature.specs.declared.decl.SigDecl.{SigDecl}
+use Rattle.ale_signature.specs.Declarations.{Declared, declared}
+use Rattle.ale_source.specs.Terms.{TermData}
+use Rattle.ale_source.specs.Grammar.{CommandText}
+use Rattle.ale_logic.specs.Descriptions.{Description}
+use Rattle.ale_logic.specs.Visits.{Outcome}
+use Rattle.ale_top.specs.Jobs.{Job, job_of}
+use Rattle.ale_top.specs.Names.{resolved}
+use Rattle.ale_top.specs.Output.{Ending, IsGrammar, file_limit, searched}
+
+-- some front of the text was appended
+abbrev pub AppendsFront : Option (List ℕ) → Option (List ℕ) → List ℕ → Type 0
+AppendsFront old new text = (n : ℕ) × Appends old new (take n text)
+
+-- The run ended as it is owed, or a fault or want of memory came between.
+abbrev pub Wrote : Ending → Status → Option (List ℕ) → Option (List ℕ) → Type 0
+Wrote owed ReadFault old new = Appends old new []
+Wrote owed WriteFault old new = AppendsFront old new owed.1
+Wrote owed NoMemory old new = AppendsFront old new owed.1
+Wrote owed Done old new = (owed.0 ≡ Done) × Appends old new owed.1
+Wrote owed Unfinished old new = (owed.0 ≡ Unfinished) × Appends old new owed.1
+Wrote owed Words old new = (owed.0 ≡ Words) × Appends old new owed.1
+Wrote owed Grammar old new = (owed.0 ≡ Grammar) × Appends old new owed.1
+Wrote owed Commands old new = (owed.0 ≡ Commands) × Appends old new owed.1
+
+-- how many visits a search may make
+unfoldable pub default_budget : ℕ
+default_budget = 1000000
+
+-- a status with which a run ends before anything is written
+abbrev pub IsEarly : Status → Type 0
+IsEarly s = (s ≡ ReadFault) ⊎ (s ≡ NoMemory)
+
+-- a status that is no fault and no want of memory
+abbrev pub IsOwed : Status → Type 0
+IsOwed Done = Unit {0}
+IsOwed Unfinished = Unit {0}
+IsOwed Words = Unit {0}
+IsOwed Grammar = Unit {0}
+IsOwed Commands = Unit {0}
+IsOwed ReadFault = ⊥
+IsOwed WriteFault = ⊥
+IsOwed NoMemory = ⊥
+
+-- how a run of a job ends where nothing fails
+abbrev pub IsReported : Status → Type 0
+IsReported Done = Unit {0}
+IsReported Unfinished = Unit {0}
+IsReported Grammar = Unit {0}
+IsReported Commands = Unit {0}
+IsReported Words = ⊥
+IsReported ReadFault = ⊥
+IsReported WriteFault = ⊥
+IsReported NoMemory = ⊥
+
+-- The status is s exactly where P holds; a fault or want of memory may come in its place.
+pub record IsExactly (result s : Status) (P : Type 0) : Type 0 where
+  pub only : result ≡ s → P
+  pub where_it_holds : P → (result ≡ s) ⊎ ((result ≡ ReadFault) ⊎ ((result ≡ WriteFault) ⊎ (result ≡ NoMemory)))
+
+-- the words stand for a job, and the files tell what they hold
+pub record Told (words : List (List ℕ)) (content : List ℕ → Option (List ℕ)) (g c : List ℕ) : Type 0 where
+  pub job : Job
+  pub words_are : job_of words ≡ Some job
+  pub grammar : content job.grammar ≡ Some g
+  pub commands : content job.commands ≡ Some c
+
+-- the grammar's text stands for an accepted signature, of some declarations
+abbrev pub IsAcceptedGrammar : List ℕ → Type 0
+IsAcceptedGrammar g = (ds : List SigDecl) × IsGrammar g ds
+
+-- The texts ask for a search: the grammar is accepted, and the command describes a node.
+pub record Asks (g c : List ℕ) (d : Declared) (desc : Description) : Type 0 where
+  pub declarations : List SigDecl
+  pub signature : d ≡ declared declarations
+  pub grammar : IsGrammar g declarations
+  pub short : length c ≤ file_limit
+  pub term : TermData
+  pub command : CommandText c (Some term)
+  pub named : resolved d term ≡ Some desc
+
+-- the commands are none, or ask for a search
+abbrev pub AreCommands : List ℕ → List ℕ → Type 0
+AreCommands g c =
+    ((length c ≤ file_limit) × CommandText c None) ⊎ ((d : Declared) × ((desc : Description) × Asks g c d desc))
+
+-- what holds of each search that the told texts ask for
+abbrev pub OfEachSearch : List (List ℕ) → (List ℕ → Option (List ℕ)) → ℕ → (Declared → Description → Outcome → Type 0) → Type 0
+OfEachSearch words content budget P =
+    (g c : List ℕ) → Told words content g c → (d : Declared) (desc : Description) → Asks g c d desc → P d desc (searched d budget desc)
+
+-- Nothing is unfinished: there is no command, or the search ends within the budget.
+abbrev pub Finishes : List ℕ → List ℕ → ℕ → Type 0
+Finishes g c budget =
+    (IsAcceptedGrammar g × (length c ≤ file_limit) × CommandText c None)
+    ⊎ ((d : Declared) × ((desc : Description) × (Asks g c d desc × ((searched d budget desc).finished ≡ true))))
+
+-- The search that is asked for needs more visits than the budget.
+abbrev pub Unfinishes : List ℕ → List ℕ → ℕ → Type 0
+Unfinishes g c budget =
+    (d : Declared) × ((desc : Description) × (Asks g c d desc × ((searched d budget desc).finished ≡ false)))

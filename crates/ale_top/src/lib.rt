@@ -1,0 +1,15 @@
+//! The whole program over files and a sink: reading, searching and writing.
+#![tactic(auto)]
+
+mod naming;
+mod printing;
+mod program;
+mod reporting;
+mod running;
+mod status;
+
+pub use program::run;
+pub use status::Status;
+
+#[cfg(test)]
+mod tests;
