@@ -1,0 +1,1 @@
+mgsat (word, agr:(num:sg, per:third)).

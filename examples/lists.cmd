@@ -1,0 +1,1 @@
+mgsat (hd:a, tl:ne_list).
