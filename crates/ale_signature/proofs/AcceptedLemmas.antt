@@ -4,11 +4,12 @@ use Rattle.std.specs.List.{filter_map}
 use Rattle.std.specs.Option.{option_map}
 use Rattle.std.proofs.lemmas.Bool.{both_ways}
 use Rattle.ale_relation.specs.Has.{Has}
-use Rattle.ale_signature.specs.Declarations.{Declared}
+use Rattle.ale_declared.specs.Declarations.{Declared}
 use Rattle.ale_signature.specs.Order.{IsAbove, Applies, is_above, leads_through, join, approp, all_types, all_features}
-use Rattle.ale_signature.specs.Accepted.{IsWellNumbered, restriction_edges}
-use Rattle.ale_signature.specs.declared.decl.Mention.{Mention}
-use Rattle.ale_signature.proofs.ListLemmas.{upto_has, upto_below, flat_map_has, Has-flat_map, filter_map_has, Has-filter_map}
+use Rattle.ale_signature.specs.Accepted.{restriction_edges}
+use Rattle.ale_declared.specs.Numbering.{IsWellNumbered}
+use Rattle.ale_declared.specs.declared.decl.Mention.{Mention}
+use Rattle.ale_declared.proofs.ListLemmas.{upto_has, upto_below, flat_map_has, Has-flat_map, filter_map_has, Has-filter_map}
 use Rattle.ale_signature.proofs.PathLemmas.{HasNoCycle, EndsBelow, Through_leads, leads_through_from}
 use Rattle.ale_signature.proofs.OrderLemmas.{IsAbove_inside, IsAbove_from_inside, is_above_from}
 use Rattle.ale_signature.proofs.JoinLemmas.{HasJoins, join_to}

@@ -5,13 +5,13 @@ use Rattle.std.specs.Prelude.{◌&&◌, unwrap_or}
 use Rattle.std.specs.List.{filter}
 use Rattle.std.proofs.lemmas.Bool.{and_parts, and_from, eqb-true, eq-eqb, both_ways}
 use Rattle.ale_relation.specs.Has.{Has}
-use Rattle.ale_signature.specs.Lists.{first, every}
-use Rattle.ale_signature.specs.Declarations.{Declared}
-use Rattle.ale_signature.specs.declared.decl.Mention.{Mention}
+use Rattle.ale_declared.specs.Lists.{first, every}
+use Rattle.ale_declared.specs.Declarations.{Declared}
+use Rattle.ale_declared.specs.declared.decl.Mention.{Mention}
 use Rattle.ale_signature.specs.Order.{IsAbove, Applies, IsRestriction, Introduces, is_above, join_of, join_of_some, restrictions, approp, mentioning, intro}
-use Rattle.ale_signature.specs.Accepted.{IsWellNumbered}
+use Rattle.ale_declared.specs.Numbering.{IsWellNumbered}
 use Rattle.ale_signature.proofs.PathLemmas.{HasNoCycle}
-use Rattle.ale_signature.proofs.ListLemmas.{Has-filter, filter_has, Has-map, map_has, first_has, first_there, first_none, every_at, every_from}
+use Rattle.ale_declared.proofs.ListLemmas.{Has-filter, filter_has, Has-map, map_has, first_has, first_there, first_none, every_at, every_from}
 use Rattle.ale_signature.proofs.OrderLemmas.{IsAbove-trans, IsAbove-antisym, IsAbove_inside, is_above_to, is_above_from}
 use Rattle.ale_signature.proofs.JoinLemmas.{IsCommon, IsJoinOf, IsJoinOf_least, join_of_to, join_of_from, join_of_none}
 

@@ -2,11 +2,11 @@
 use Rattle.std.proofs.Common.{◌≡◌, sym, ap, ◌∙◌, subst, ℕ, true, false, Some, None, List, ◌∷◌, inl, inr, ◌⊎◌, cond}
 use Rattle.std.proofs.lemmas.Bool.{cases_Bool, both_ways, false_from_ne_true}
 use Rattle.ale_relation.specs.Has.{Has}
-use Rattle.ale_signature.specs.Lists.{first, every}
-use Rattle.ale_signature.specs.Declarations.{Declared}
+use Rattle.ale_declared.specs.Lists.{first, every}
+use Rattle.ale_declared.specs.Declarations.{Declared}
 use Rattle.ale_signature.specs.Order.{is_above}
 use Rattle.ale_signature.specs.Stages.{IsOrdered, IsTop}
-use Rattle.ale_signature.proofs.ListLemmas.{every_at, first_has, first_there, first_none_from}
+use Rattle.ale_declared.proofs.ListLemmas.{every_at, first_has, first_there, first_none_from}
 use Rattle.ale_signature.proofs.OrderLemmas.{is_above_to, IsAbove-antisym}
 
 -- a type that is above one of the types, which a top is above

@@ -7,12 +7,12 @@ use Rattle.std.specs.List.{filter}
 use Rattle.ale_relation.specs.Has.{Has}
 use Rattle.ale_relation.specs.Rows.{count_below}
 use Rattle.ale_relation.specs.Paths.{here}
-use Rattle.ale_signature.specs.Lists.{every}
-use Rattle.ale_signature.specs.Declarations.{Declared}
+use Rattle.ale_declared.specs.Lists.{every}
+use Rattle.ale_declared.specs.Declarations.{Declared}
 use Rattle.ale_signature.specs.Order.{IsAbove, IsJoin, is_above, is_common, join_of, join, all_types, rank}
-use Rattle.ale_signature.specs.Accepted.{IsWellNumbered}
+use Rattle.ale_declared.specs.Numbering.{IsWellNumbered}
 use Rattle.ale_signature.proofs.PathLemmas.{HasNoCycle}
-use Rattle.ale_signature.proofs.ListLemmas.{Has-append_cases, Has-append_left, Has-append_right, upto_has, upto_below, length-filter-lt, length-filter-le_in, length-filter-upto, first_has, first_there, first_none, every_at, every_from}
+use Rattle.ale_declared.proofs.ListLemmas.{Has-append_cases, Has-append_left, Has-append_right, upto_has, upto_below, length-filter-lt, length-filter-le_in, length-filter-upto, first_has, first_there, first_none, every_at, every_from}
 use Rattle.ale_signature.proofs.OrderLemmas.{IsAbove-trans, IsAbove-antisym, IsAbove_inside, IsAbove_from_inside, is_above_to, is_above_from, above_all, rank-le}
 
 -- c is a subtype of each of the types

@@ -6,15 +6,14 @@ use Rattle.std.proofs.lemmas.Bool.{both_ways, cases_eq, false≢true, eqb-true}
 use Rattle.ale_relation.specs.Has.{Has}
 use Rattle.ale_relation.specs.Paths.{Reaches, here}
 use Rattle.ale_relation.specs.Rows.{count_below}
-use Rattle.ale_signature.specs.Lists.{first, every}
-use Rattle.ale_signature.specs.Declarations.{Declared}
+use Rattle.ale_declared.specs.Lists.{first, every}
+use Rattle.ale_declared.specs.Declarations.{Declared}
 use Rattle.ale_signature.specs.Order.{IsAbove, IsJoin, is_above, join, rank}
-use Rattle.ale_signature.specs.Accepted.{IsAccepted}
 use Rattle.ale_signature.specs.Stages.{IsOrdered, IsFilled, entry, directly_below, HasLeast, are_below, join_row, join_rows}
-use Rattle.ale_signature.proofs.ListLemmas.{Has-filter_map, filter_map_has, first_has, first_none, every_at, every_from}
+use Rattle.ale_declared.proofs.ListLemmas.{Has-filter_map, filter_map_has, first_has, first_none, every_at, every_from}
 use Rattle.ale_signature.proofs.PathLemmas.{Leads_apart, Reaches-edge}
 use Rattle.ale_signature.proofs.OrderLemmas.{rank-less, rank_is, IsAbove-trans, IsAbove-antisym, IsAbove_inside, is_above_to, is_above_from}
-use Rattle.ale_signature.proofs.JoinLemmas.{join_to, join_from, none_from, join-above, join-comm}
+use Rattle.ale_signature.proofs.JoinLemmas.{HasJoins, join_to, join_from, none_from, join-above, join-comm}
 use Rattle.ale_signature.proofs.LoopLemmas.{are_below-from}
 use Rattle.ale_signature.proofs.TabulatedLemmas.{length-tabulated, get_or-tabulated, tabulated-ext, get_or-default}
 use Rattle.ale_signature.proofs.StageLemmas.{directly_below_has, Has-directly_below}
@@ -85,11 +84,11 @@ join_top d a b below j due h =
     (is, λ c inside left right. (j, is))
 
 -- where there are candidates and none is above all, the two types have common subtypes and no least one
-pub join_lacking : (d : Declared) (a b : ℕ) (below : List ℕ) (x : ℕ) → IsDue d a b below → Has (candidates d b below) x → first (λ t. every (λ u. is_above d t u) (candidates d b below)) (candidates d b below) ≡ None → IsAccepted d → ⊥
-join_lacking d a b below x due h none accepted =
+pub join_lacking : (d : Declared) (a b : ℕ) (below : List ℕ) (x : ℕ) → IsDue d a b below → Has (candidates d b below) x → first (λ t. every (λ u. is_above d t u) (candidates d b below)) (candidates d b below) ≡ None → HasJoins d → ⊥
+join_lacking d a b below x due h none joins =
     let common = candidate_common d a b below x due h in
     let w = due.ordered.numbered in
-    let has = accepted.joins a b x common.0 common.1 common.2 in
+    let has = joins a b x common.0 common.1 common.2 in
     let j : ℕ = has.0 in
     let is : IsJoin d a b j = has.1 in
     let inside = IsAbove_inside d a j w is.left due.a_in in

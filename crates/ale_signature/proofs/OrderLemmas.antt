@@ -8,10 +8,10 @@ use Rattle.ale_relation.specs.Rows.{count_below}
 use Rattle.std.specs.Bool.{Decides}
 use Rattle.std.proofs.lemmas.Bool.Decides.{same_from_decides}
 use Rattle.ale_relation.specs.Paths.{here}
-use Rattle.ale_signature.specs.Declarations.{Declared}
+use Rattle.ale_declared.specs.Declarations.{Declared}
 use Rattle.ale_signature.specs.Order.{IsAbove, is_above, leads_through, rank, all_types}
-use Rattle.ale_signature.specs.Accepted.{IsWellNumbered}
-use Rattle.ale_signature.proofs.ListLemmas.{upto_has, length-filter-lt, length-filter-le, length-filter-upto-le, length-filter-upto}
+use Rattle.ale_declared.specs.Numbering.{IsWellNumbered}
+use Rattle.ale_declared.proofs.ListLemmas.{upto_has, length-filter-lt, length-filter-le, length-filter-upto-le, length-filter-upto}
 use Rattle.ale_signature.proofs.PathLemmas.{HasNoCycle, Reaches-trans, Reaches-edge, Reaches-leads, Reaches_cases, Reaches-antisym, Reaches_inside, Reaches_from_inside, Leads_apart, Leads_through, Through_leads, leads_through_to, leads_through_from}
 
 -- each type is above itself

@@ -5,8 +5,8 @@ use Rattle.std.specs.Bool.{Decides}
 use Rattle.std.specs.List.{filter}
 use Rattle.ale_relation.specs.Has.{Has}
 use Rattle.ale_relation.specs.Paths.{Reaches, here, along, Leads}
-use Rattle.ale_signature.specs.Lists.{upto}
-use Rattle.ale_signature.proofs.ListLemmas.{upto_has, length-filter-lt}
+use Rattle.ale_declared.specs.Lists.{upto}
+use Rattle.ale_declared.proofs.ListLemmas.{upto_has, length-filter-lt}
 use Rattle.ale_signature.specs.Order.{is_edge, leads_through}
 
 -- no node leads back to itself

@@ -4,18 +4,18 @@ use Rattle.std.specs.Prelude.{◌&&◌}
 use Rattle.std.specs.List.{filter}
 use Rattle.std.proofs.lemmas.Bool.{cases_Bool}
 use Rattle.ale_relation.specs.Has.{Has}
-use Rattle.ale_signature.specs.Lists.{first, every}
-use Rattle.ale_signature.specs.Declarations.{Declared}
-use Rattle.ale_signature.specs.declared.decl.Mention.{Mention}
+use Rattle.ale_declared.specs.Lists.{first, every}
+use Rattle.ale_declared.specs.Declarations.{Declared}
+use Rattle.ale_declared.specs.declared.decl.Mention.{Mention}
 use Rattle.ale_signature.specs.Order.{IsAbove, IsJoin, Applies, Introduces, is_above, join, join_of, join_of_some, restrictions, approp, mentioning, intro}
-use Rattle.ale_signature.specs.Accepted.{IsWellNumbered, IsAccepted}
+use Rattle.ale_declared.specs.Numbering.{IsWellNumbered}
 use Rattle.ale_signature.specs.Stages.{IsOrdered, HasLeast, are_below, are_within, mentions_of, restricted, narrowed, HaveNoJoin, HasRestriction}
-use Rattle.ale_signature.proofs.ListLemmas.{map_has, filter_has}
+use Rattle.ale_declared.proofs.ListLemmas.{map_has, filter_has}
 use Rattle.ale_signature.proofs.LoopLemmas.{are_below-from}
 use Rattle.ale_signature.proofs.StageLemmas.{are_within-at}
 use Rattle.ale_signature.proofs.OrderLemmas.{IsAbove-trans}
 use Rattle.ale_signature.proofs.JoinLemmas.{IsCommon, IsJoinOf, none_from, join_to, join_of_to, join_of_from, join_of_none, join_of-one}
-use Rattle.ale_signature.proofs.AppropLemmas.{restrictions_has, Has-restrictions, IsJoinOf-restrictions, intro_is, first_introduces, first_introduces_none}
+use Rattle.ale_signature.proofs.AppropLemmas.{HasRestrictions, restrictions_has, Has-restrictions, IsJoinOf-restrictions, intro_is, first_introduces}
 
 -- the types at which mentions are
 pub ats-below : (n : ℕ) (ms : List Mention) → are_within n ms ≡ true → are_below n (map (λ (m : Mention). m.at) ms) ≡ true
@@ -155,12 +155,12 @@ HasRestriction-from d f t r w is there m a =
     let found = there m.restriction (Has-restricted d f t m w a) in
     (found.0, approp_is d f t ∙ sym is ∙ found.1)
 
--- an accepted signature has the join
-pub restrictions_lack : (d : Declared) (f t : ℕ) → IsWellNumbered d → t < length d.types → HaveNoJoin d (restricted d t (mentions_of d.mentions f)) → IsAccepted d → ⊥
-restrictions_lack d f t w below h accepted =
+-- where restrictions that apply together have joins, these have one
+pub restrictions_lack : (d : Declared) (f t : ℕ) → IsWellNumbered d → t < length d.types → HaveNoJoin d (restricted d t (mentions_of d.mentions f)) → HasRestrictions d → ⊥
+restrictions_lack d f t w below h have =
     let back = sym (restrictions_is d f t) in
     let some = restrictions_has d f t h.some.0 (subst (λ (rs : List ℕ). Has rs h.some.0) back h.some.1) in
-    let r = accepted.restrictions_join f t some.0 below some.1 in
+    let r = have f t some.0 below some.1 in
     join_of_none d (restrictions d f t) r.0 w (subst (λ (rs : List ℕ). join_of d rs ≡ None) back h.none) (IsJoinOf-restrictions d f t r.0 some.0 w some.1 r.1)
 
 -- ---- which type introduces a feature
@@ -169,8 +169,3 @@ pub intro_found : (d : Declared) (f t : ℕ) → IsOrdered d → first (λ t. ev
 intro_found d f t o h =
     let is = first_introduces d f t h in
     (sym (intro_is d f t o.numbered o.no_cycle is), is)
-
-pub intro_lacking : (d : Declared) (f : ℕ) → IsOrdered d → f < length d.features → first (λ t. every (λ u. is_above d t u) (mentioning d f)) (mentioning d f) ≡ None → IsAccepted d → ⊥
-intro_lacking d f o listed h accepted =
-    let one = accepted.one_intro f listed in
-    first_introduces_none d f one.0 o.numbered h one.1

@@ -1,10 +1,11 @@
 -- The size of what is filled in below a type: once it is below the depth that it is counted to, it is the whole.
 use Rattle.std.proofs.Common.{◌≡◌, sym, ap, ◌<◌, refl, ℕ, zero, suc, ◌≤◌, Option, Some, None, arith, subst, length}
-use Rattle.ale_signature.specs.Lists.{sum_over}
-use Rattle.ale_signature.specs.Declarations.{Declared}
+use Rattle.ale_declared.specs.Lists.{sum_over}
+use Rattle.ale_declared.specs.Declarations.{Declared}
 use Rattle.ale_signature.specs.Hierarchy.{size_at}
-use Rattle.ale_signature.specs.Order.{all_features, approp, if_there, size_to, size, most_nodes, hierarchy}
-use Rattle.ale_signature.proofs.ListLemmas.{le-sum_over, sum_over_same, sum_over-le, upto_has}
+use Rattle.ale_signature.specs.Order.{all_features, approp, if_there, size_to, size, hierarchy}
+use Rattle.ale_signature.specs.Limits.{most_nodes}
+use Rattle.ale_declared.proofs.ListLemmas.{le-sum_over, sum_over_same, sum_over-le, upto_has}
 
 -- measures that agree up to n agree on what is there
 if_there_same : (f g : ℕ → ℕ) (n : ℕ) (o : Option ℕ) → ((r : ℕ) → g r ≤ n → f r ≡ g r) → if_there g o ≤ n → if_there f o ≡ if_there g o

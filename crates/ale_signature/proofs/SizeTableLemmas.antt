@@ -6,12 +6,14 @@ use Rattle.std.proofs.lemmas.Bool.{cases_Bool, true≢false, cases_eq}
 use Rattle.std.proofs.lemmas.List.{get_or-set_same, get_or-set_other}
 use Rattle.ale_relation.specs.Has.{Has}
 use Rattle.ale_relation.specs.Paths.{Reaches, here, along, Leads}
-use Rattle.ale_signature.specs.Lists.{sum_over}
-use Rattle.ale_signature.specs.Declarations.{Declared}
-use Rattle.ale_signature.specs.Order.{all_features, features, approp, if_there, size, most_nodes}
-use Rattle.ale_signature.specs.Accepted.{IsWellNumbered, restriction_edges}
+use Rattle.ale_declared.specs.Lists.{sum_over}
+use Rattle.ale_declared.specs.Declarations.{Declared}
+use Rattle.ale_signature.specs.Order.{all_features, features, approp, if_there, size}
+use Rattle.ale_signature.specs.Limits.{most_nodes}
+use Rattle.ale_signature.specs.Accepted.{restriction_edges}
+use Rattle.ale_declared.specs.Numbering.{IsWellNumbered}
 use Rattle.ale_signature.specs.Stages.{IsOrdered, TellsSizes, KnowsTo, IsUnknown}
-use Rattle.ale_signature.proofs.ListLemmas.{upto_below, filter_has}
+use Rattle.ale_declared.proofs.ListLemmas.{upto_below, filter_has}
 use Rattle.ale_signature.proofs.AppropLemmas.{IsApprop_inside, approp_to}
 use Rattle.ale_signature.proofs.AcceptedLemmas.{restriction_edges_has}
 use Rattle.ale_signature.proofs.SizeLemmas.{size_is, size_from, size-less}
@@ -73,11 +75,11 @@ TellsSizes-set d sizes t s inside tells one u below known =
     ]
 
 -- where the sizes up to k are known, one of at most k + 1 is found
-pub size_found : (d : Declared) (sizes : List ℕ) (k t s : ℕ) → IsOrdered d → t < length d.types → KnowsTo d k sizes → (s ≡ 0 → (f : ℕ) × (f < length d.features) × IsUnknown d t sizes f) → size d t ≤ k + 1 → size d t ≤ most_nodes → 0 < s
+pub size_found : (d : Declared) (sizes : List ℕ) (k t s : ℕ) → IsOrdered d → t < length d.types → KnowsTo d k sizes → (s ≡ 0 → size d t ≤ most_nodes → (f : ℕ) × (f < length d.features) × IsUnknown d t sizes f) → size d t ≤ k + 1 → size d t ≤ most_nodes → 0 < s
 size_found d sizes k t s o below knows unknown less small =
     elim (cases_eq s 0) [
       | inl none ↦
-          let f = unknown none in
+          let f = unknown none small in
           let r : ℕ = f.2.restriction in
           let smaller : size d r < size d t = size-less d f.0 t r f.1 f.2.there small in
           let inside = (IsApprop_inside d f.0 t r o.numbered (approp_to d f.0 t r o.numbered f.2.there)).2 in
@@ -148,18 +150,3 @@ size_all d t fs i total is none sum small =
     subst (λ (xs : List ℕ). total + sum_over (λ f. if_there (size d) (approp d f t)) xs ≡ suc (sum_over (λ f. if_there (size d) (approp d f t)) fs)) none sum in
     let whole : total ≡ suc (sum_over (λ f. if_there (size d) (approp d f t)) fs) = omega arith in
     (size_counted d t total (subst (λ (xs : List ℕ). total ≡ suc (sum_over (λ f. if_there (size d) (approp d f t)) xs)) is whole) small, small)
-
--- where all sizes are known, all are within the limit
-pub all_small : (d : Declared) (sizes : List ℕ) → length sizes ≡ length d.types → TellsSizes d sizes → ((t : ℕ) → t < length sizes → 0 < get_or sizes t 0) → (t : ℕ) → t < length d.types → size d t ≤ most_nodes
-all_small d sizes long tells known t below =
-    let is = tells t below (known t (subst (λ n. t < n) (sym long) below)) in
-    subst (λ n. n ≤ most_nodes) (sym is.0) is.1
-
--- where those up to the limit are known and one isn't, that one is past the limit
-pub not_all_small : (d : Declared) (sizes : List ℕ) (k : ℕ) → most_nodes ≤ k → length sizes ≡ length d.types → KnowsTo d k sizes → (t : ℕ) × (t < length sizes) × (get_or sizes t 0 ≡ 0) → ((t : ℕ) → t < length d.types → size d t ≤ most_nodes) → ⊥
-not_all_small d sizes k most long knows unknown small =
-    let below : unknown.0 < length d.types = subst (λ n. unknown.0 < n) long unknown.1 in
-    let fits : size d unknown.0 ≤ most_nodes = small unknown.0 below in
-    let known : 0 < get_or sizes unknown.0 0 = knows unknown.0 below (omega arith) fits in
-    let none : get_or sizes unknown.0 0 ≡ 0 = unknown.2 in
-    absurd (omega arith)

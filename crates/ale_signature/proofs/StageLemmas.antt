@@ -1,16 +1,15 @@
 -- What the stages of building a signature rest on: edges and mentions within the numbers of the types.
-use Rattle.std.proofs.Common.{◌≡◌, sym, ◌∙◌, subst, refl, ℕ, ◌<◌, true, false, List, [], ◌∷◌, length, inl, inr, eqb}
+use Rattle.std.proofs.Common.{◌≡◌, sym, ◌∙◌, subst, refl, ℕ, ◌<◌, true, List, [], ◌∷◌, length, inl, inr, eqb}
 use Rattle.std.specs.Prelude.{nat_lt, ◌&&◌, IsTrue, ◌↔◌}
 use Rattle.std.specs.List.{filter}
-use Rattle.std.proofs.lemmas.Bool.{both_ways, and_parts, and_from, ltb-true, lt-ltb, eqb-true, eq-eqb}
+use Rattle.std.proofs.lemmas.Bool.{and_parts, and_from, ltb-true, lt-ltb, eqb-true, eq-eqb}
 use Rattle.ale_relation.specs.Has.{Has}
 use Rattle.ale_relation.specs.Paths.{ends_below, Leads}
 use Rattle.ale_relation.specs.Rows.{Rows, holds}
-use Rattle.ale_signature.specs.Declarations.{Declared}
-use Rattle.ale_signature.specs.Accepted.{IsWellNumbered}
-use Rattle.ale_signature.specs.declared.decl.Mention.{Mention}
+use Rattle.ale_declared.specs.Declarations.{Declared}
+use Rattle.ale_declared.specs.declared.decl.Mention.{Mention}
 use Rattle.ale_signature.specs.Stages.{IsOrdered, TellsLeads, are_below, are_within, directly_below, mentions_of}
-use Rattle.ale_signature.proofs.ListLemmas.{map_has, filter_has, Has-map, Has-filter}
+use Rattle.ale_declared.proofs.ListLemmas.{map_has, filter_has, Has-map, Has-filter}
 use Rattle.ale_signature.proofs.LoopLemmas.{are_below-from}
 
 -- both ends of each edge are below n
@@ -73,15 +72,3 @@ TellsLeads-from d rows edges n e f size leads = record {
   size = size ∙ e;
   leads = λ a b p q. subst (λ (es : List (ℕ × ℕ)). IsTrue (holds rows a b) ↔ Leads es a b) f (leads a b (rw e p) (rw e q));
 }
-
--- what leads to itself is a cycle
-pub cycle_found : (d : Declared) (rows : Rows) → TellsLeads d rows → (t : ℕ) × (t < rows.size) × (holds rows t t ≡ true) → ((t : ℕ) → Leads d.edges t t → ⊥) → ⊥
-cycle_found d rows tells found free =
-    let below : found.0 < length d.types = subst (λ n. found.0 < n) tells.size found.1 in
-    free found.0 ((tells.leads found.0 found.0 below below).0 found.2)
-
--- and where nothing does, there is none
-pub no_cycle_found : (d : Declared) (rows : Rows) → IsWellNumbered d → TellsLeads d rows → ((t : ℕ) → t < rows.size → holds rows t t ≡ false) → (t : ℕ) → Leads d.edges t t → ⊥
-no_cycle_found d rows w tells none t path =
-    let below : t < length d.types = (w.edges t path.0 path.1).0 in
-    both_ways (holds rows t t) (none t (subst (λ n. t < n) (sym tells.size) below)) ((tells.leads t t below below).1 path)

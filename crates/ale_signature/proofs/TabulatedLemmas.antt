@@ -4,9 +4,9 @@ use Rattle.std.specs.List.{filter}
 use Rattle.std.proofs.lemmas.List.Elements.{filter-append}
 use Rattle.std.proofs.lemmas.List.{same_lists, map-append, get_or_append_left}
 use Rattle.std.proofs.Math.Seq.{get_or-append_seam}
-use Rattle.ale_signature.specs.Lists.{upto}
+use Rattle.ale_declared.specs.Lists.{upto}
 use Rattle.ale_signature.specs.Stages.{tabulated, entry}
-use Rattle.ale_signature.proofs.ListLemmas.{less_or_last}
+use Rattle.ale_declared.proofs.ListLemmas.{less_or_last}
 
 -- one value more
 pub tabulated-push : {A : Type 0} (f : ℕ → A) (n : ℕ) → tabulated f (n + 1) ≡ tabulated f n ++ f n ∷ []

@@ -1,25 +1,17 @@
 -- Which declared signatures are accepted: the limits are kept, the order has no cycle, two types with a
 -- common subtype have a least one, each feature has one most general type that mentions it, restrictions
--- that apply together have a join, and no type leads back to itself by restrictions.
+-- that apply together have a join, no type leads back to itself by restrictions, no other type is below an
+-- extensional one, and what fills a type's features in has few nodes.
 -- Source: Carpenter 1992, chapters 2 and 6; the limits are this project's own.
-use Rattle.std.specs.Prelude.{◌≡◌, ◌≢◌, ℕ, ◌<◌, ◌≤◌, List, length}
+use Rattle.std.specs.Prelude.{◌≡◌, ℕ, ◌<◌, ◌≤◌, List, length}
 use Rattle.std.specs.List.{flat_map, filter_map}
 use Rattle.std.specs.Option.{option_map}
 use Rattle.ale_relation.specs.Paths.{Leads}
-use Rattle.ale_signature.specs.Declarations.{Declared}
-use Rattle.ale_signature.specs.Lists.{Has}
-use Rattle.ale_signature.specs.Order.{IsAbove, IsJoin, Applies, IsRestriction, Introduces, all_types, all_features, approp, size, most_nodes}
-use Rattle.ale_signature.specs.declared.decl.Mention.{Mention}
-
--- What numbering gives whatever is declared: all numbers are below the counts, each type but `bot` has a
--- type directly above it, and each feature is mentioned.
-pub record IsWellNumbered (d : Declared) : Type 0 where
-  pub edges : (a b : ℕ) → Has d.edges (a, b) → (a < length d.types) × (b < length d.types)
-  pub mentions : (m : Mention) → Has d.mentions m → (m.at < length d.types) × (m.feature < length d.features) × (m.restriction < length d.types)
-  pub ext : (t : ℕ) → Has d.ext t → t < length d.types
-  pub some_type : 0 < length d.types
-  pub has_parent : (t : ℕ) → t < length d.types → t ≢ 0 → (p : ℕ) × Has d.edges (p, t)
-  pub mentioned : (f : ℕ) → f < length d.features → (m : Mention) × Has d.mentions m × (m.feature ≡ f)
+use Rattle.ale_declared.specs.Declarations.{Declared}
+use Rattle.ale_declared.specs.Lists.{Has}
+use Rattle.ale_signature.specs.Order.{IsAbove, IsJoin, Applies, IsRestriction, Introduces, all_types, all_features, approp, size}
+use Rattle.ale_signature.specs.Limits.{most_types, most_features, most_nodes}
+use Rattle.ale_declared.specs.declared.decl.Mention.{Mention}
 
 -- from each type to the restriction on each of its features
 abbrev pub restriction_edges : Declared → List (ℕ × ℕ)
@@ -27,8 +19,8 @@ restriction_edges d =
     flat_map (λ t. filter_map (λ f. option_map (λ r. (t, r)) (approp d f t)) (all_features d)) (all_types d)
 
 pub record IsAccepted (d : Declared) : Type 0 where
-  pub few_types : length d.types ≤ 4096
-  pub few_features : length d.features ≤ 1024
+  pub few_types : length d.types ≤ most_types
+  pub few_features : length d.features ≤ most_features
   pub no_cycle : (t : ℕ) → Leads d.edges t t → ⊥
   pub joins : (a b c : ℕ) → c < length d.types → IsAbove d a c → IsAbove d b c → (j : ℕ) × IsJoin d a b j
   pub one_intro : (f : ℕ) → f < length d.features → (t : ℕ) × Introduces d f t

@@ -2,7 +2,8 @@
 -- that these obey. Types are the numbers below `types`, 0 the most general one; features are the numbers
 -- below `features`. Source: type hierarchies and appropriateness, Carpenter 1992, chapters 2 and 6.
 use Rattle.std.specs.Prelude.{◌≡◌, ◌≢◌, ℕ, suc, ◌<◌, ◌≤◌, Bool, true, Option, Some, None}
-use Rattle.ale_signature.specs.Lists.{upto, sum_over}
+use Rattle.ale_declared.specs.Lists.{upto, sum_over}
+use Rattle.ale_signature.specs.Limits.{most_nodes}
 
 pub record Hierarchy : Type 0 where
   pub types : ℕ
@@ -48,5 +49,5 @@ pub record IsLawful (h : Hierarchy) : Type 0 where
   pub intro_there : (f t : ℕ) → f < h.features → t < h.types → Above h (h.intro f) t → (r : ℕ) × (h.approp f t ≡ Some r)
   pub rank_less : (a b : ℕ) → Above h a b → a ≢ b → h.rank b < h.rank a
   pub size_is : (t : ℕ) → t < h.types → h.size t ≡ suc (sum_over (λ f. size_at h (h.approp f t)) (upto h.features))
-  pub size_small : (t : ℕ) → t < h.types → h.size t ≤ 4096
+  pub size_small : (t : ℕ) → t < h.types → h.size t ≤ most_nodes
   pub ext_last : (a b : ℕ) → h.is_ext a ≡ true → Above h a b → a ≡ b

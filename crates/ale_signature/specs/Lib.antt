@@ -1,11 +1,9 @@
 pub mod Accepted
 pub mod Deciding
-pub mod Declarations
+pub mod Faults
 pub mod Hierarchy
 pub mod Laws
-pub mod Lists
-pub mod Names
-pub mod Numbering
+pub mod Limits
 pub mod Order
 pub mod Refusals
 pub mod Stages

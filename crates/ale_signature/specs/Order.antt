@@ -3,10 +3,11 @@
 -- Source: Carpenter 1992, chapter 2 (type hierarchies) and chapter 6 (appropriateness).
 use Rattle.std.specs.Prelude.{◌≡◌, ℕ, zero, suc, ◌==◌, Bool, false, ◌&&◌, ◌||◌, not, Option, Some, None, is_some, unwrap_or, List, [], ◌∷◌, length, map, filter}
 use Rattle.ale_relation.specs.Paths.{Reaches}
-use Rattle.ale_signature.specs.Declarations.{Declared}
-use Rattle.ale_signature.specs.Lists.{Has, upto, first, every, sum_over}
+use Rattle.ale_declared.specs.Declarations.{Declared}
+use Rattle.ale_declared.specs.Lists.{Has, upto, first, every, sum_over, is_among}
+use Rattle.ale_signature.specs.Limits.{most_nodes}
 use Rattle.ale_signature.specs.Hierarchy.{Hierarchy}
-use Rattle.ale_signature.specs.declared.decl.Mention.{Mention}
+use Rattle.ale_declared.specs.declared.decl.Mention.{Mention}
 
 -- a is b, or more general: edges lead from a to b
 abbrev pub IsAbove : Declared → ℕ → ℕ → Type 0
@@ -92,10 +93,6 @@ intro d f = unwrap_or (first (λ t. every (λ u. is_above d t u) (mentioning d f
 abbrev pub features : Declared → ℕ → List ℕ
 features d t = filter (λ f. is_some (approp d f t)) (all_features d)
 
-abbrev pub is_among : ℕ → List ℕ → Bool
-is_among x [] = false
-is_among x (y ∷ ys) = x == y || is_among x ys
-
 abbrev pub is_ext : Declared → ℕ → Bool
 is_ext d t = is_among t d.ext
 
@@ -113,11 +110,7 @@ abbrev pub size_to : Declared → ℕ → ℕ → ℕ
 size_to d zero t = 0
 size_to d (suc n) t = suc (sum_over (λ f. if_there (size_to d n) (approp d f t)) (all_features d))
 
--- the most nodes that one type's fill may have
-abbrev pub most_nodes : ℕ
-most_nodes = 4096
-
--- A fill of at most 4,096 nodes is no deeper than that.
+-- A fill of at most so many nodes is no deeper than that.
 unfoldable pub size : Declared → ℕ → ℕ
 size d t = size_to d (suc most_nodes) t
 

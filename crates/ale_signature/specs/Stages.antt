@@ -1,15 +1,17 @@
 -- What the stages of building a signature establish of what is declared, one after another, and the tables
--- that they fill.
+-- that they fill. Source: this project's own way to compute what Carpenter 1992, chapters 2 and 6, define.
 use Rattle.std.specs.Prelude.{◌≡◌, ℕ, ◌<◌, ◌≤◌, ◌↔◌, ◌==◌, ◌&&◌, nat_lt, Bool, true, IsTrue, Option, Some, None, List, [], length, map, filter, slice_index_or}
 use Rattle.std.specs.List.{list_all}
 use Rattle.ale_relation.specs.Has.{Has}
 use Rattle.ale_relation.specs.Paths.{Leads}
 use Rattle.ale_relation.specs.Rows.{Rows, holds}
-use Rattle.ale_signature.specs.Lists.{upto, every}
-use Rattle.ale_signature.specs.Declarations.{Declared}
-use Rattle.ale_signature.specs.Order.{IsAbove, Applies, is_above, join_of, join, approp, intro, features, is_ext, size, most_nodes}
-use Rattle.ale_signature.specs.Accepted.{IsWellNumbered, IsAccepted}
-use Rattle.ale_signature.specs.declared.decl.Mention.{Mention}
+use Rattle.ale_declared.specs.Lists.{upto, every}
+use Rattle.ale_declared.specs.Declarations.{Declared}
+use Rattle.ale_signature.specs.Order.{IsAbove, Applies, is_above, join_of, join, approp, intro, features, is_ext, size}
+use Rattle.ale_signature.specs.Limits.{most_types, most_features, most_nodes}
+use Rattle.ale_signature.specs.Accepted.{IsAccepted}
+use Rattle.ale_declared.specs.Numbering.{IsWellNumbered}
+use Rattle.ale_declared.specs.declared.decl.Mention.{Mention}
 
 -- a function's values at the numbers below n, in order
 abbrev pub tabulated : {A : Type 0} → (ℕ → A) → ℕ → List A
@@ -28,8 +30,8 @@ entry rows a b = slice_index_or (slice_index_or rows a []) b None
 -- The limits are kept, and no type leads back to itself.
 pub record IsOrdered (d : Declared) : Type 0 where
   pub numbered : IsWellNumbered d
-  pub few_types : length d.types ≤ 4096
-  pub few_features : length d.features ≤ 1024
+  pub few_types : length d.types ≤ most_types
+  pub few_features : length d.features ≤ most_features
   pub no_cycle : (t : ℕ) → Leads d.edges t t → ⊥
 
 -- the rows say what the edges lead to

@@ -1,16 +1,20 @@
 //! The joins of all types, by rows: a type's row is filled after those of the types below it.
-ghost use Rattle.std.specs.Prelude.{◌≡◌, ◌≢◌, ℕ, ◌+◌, ◌<◌, ◌≤◌, IfOk, IfSome, OnOk, IsErrOf, IsTrue, [], length, slice_index_or};
+ghost use Rattle.std.specs.Prelude.{◌≡◌, ◌≢◌, ℕ, ◌+◌, ◌<◌, ◌≤◌, IfOk, IfErr, IfSome, None, OnOk, IsErrOf, IsTrue, [], length, slice_index_or};
 ghost use Rattle.std.specs.List.{filter_map};
 ghost use Rattle.ale_relation.specs.Has.{Has};
 ghost use Rattle.ale_signature.specs.Order.{rank, join};
-ghost use Rattle.ale_signature.specs.Accepted.{IsAccepted};
+ghost use Rattle.ale_signature.specs.Faults.{join_fault};
+ghost use Rattle.ale_signature.specs.Refusals.{RefusesFor};
 ghost use Rattle.ale_signature.specs.Stages.{entry, tabulated, are_below, directly_below, HasLeast, IsFilled, join_row, join_rows};
 
 use crate::error::SigError;
 use crate::ids::TypeId;
+use crate::naming::refusal;
 use crate::order::Order;
-use crate::row::Row;
+use crate::stop::Stop;
 use crate::tops::most_general;
+use crate::witnesses::no_join;
+use ale_text::Row;
 use std::alloc::{AllocError, Global};
 
 /// The entry of a table.
@@ -38,7 +42,32 @@ pub fn join_at(order: &Order, joins: &[Row<Option<TypeId>>], a: usize, b: usize)
 pub fn joins(alloc: Global, order: &Order) -> Result<Vec<Row<Option<TypeId>>>, SigError>
     ensures rows { IfOk result (λ rows. rows.items ≡ join_rows order.now) }
     ensures least { IfOk result (λ _. (a b : ℕ) → a < length order.now.types → b < length order.now.types → HasLeast order.now a b) }
-    ensures refused { IsErrOf result SigError.NotAccepted → IsAccepted order.now → ⊥ }
+    ensures refused { IfErr result (λ e. RefusesFor order.now (join_fault order.now) e) }
+{
+    match all_joins(alloc, order) {
+        Ok(rows) => Ok(rows),
+        Err(Stop::NoMemory) => Err(SigError::NoMemory),
+        Err(Stop::Refused) => Err(no_join_refusal(alloc, order)),
+    }
+}
+
+/// The refusal where two types have common subtypes and no least one.
+fn no_join_refusal(alloc: Global, order: &Order) -> SigError
+    requires { join_fault order.now ≢ None }
+    ensures { RefusesFor order.now (join_fault order.now) result }
+{
+    match no_join(alloc, order) {
+        Ok(Some(fault)) => refusal(alloc, order.outline(), fault),
+        Ok(None) => unreachable!(),
+        Err(_) => SigError::NoMemory,
+    }
+}
+
+/// The joins of all types, by ranks.
+fn all_joins(alloc: Global, order: &Order) -> Result<Vec<Row<Option<TypeId>>>, Stop>
+    ensures rows { IfOk result (λ rows. rows.items ≡ join_rows order.now) }
+    ensures least { IfOk result (λ _. (a b : ℕ) → a < length order.now.types → b < length order.now.types → HasLeast order.now a b) }
+    ensures refused { IsErrOf result Stop.Refused → join_fault order.now ≢ None }
 {
     let ranks = order.ranks(alloc)?;
     let mut rows = empty_rows(alloc, order.type_count())?;
@@ -66,13 +95,13 @@ fn fill_rank(
     ranks: &[usize],
     due: usize,
     rows: &mut Vec<Row<Option<TypeId>>>,
-) -> Result<(), SigError>
+) -> Result<(), Stop>
     requires ranks { ranks.now ≡ tabulated (rank order.now) (length order.now.types) }
     requires len { length rows.old.items ≡ length order.now.types }
     requires filled { (t : ℕ) → t < length order.now.types → rank order.now t < due → IsFilled order.now rows.old.items t }
     ensures len { OnOk result (length rows.new.items ≡ length order.now.types) }
     ensures filled { OnOk result ((t : ℕ) → t < length order.now.types → rank order.now t < due + 1 → IsFilled order.now rows.new.items t) }
-    ensures refused { IsErrOf result SigError.NotAccepted → IsAccepted order.now → ⊥ }
+    ensures refused { IsErrOf result Stop.Refused → join_fault order.now ≢ None }
 {
     for a in 0..order.type_count() {
         fill_if_due(alloc, order, ranks[a], due, rows, a)?;
@@ -88,7 +117,7 @@ fn fill_if_due(
     due: usize,
     rows: &mut Vec<Row<Option<TypeId>>>,
     a: usize,
-) -> Result<(), SigError>
+) -> Result<(), Stop>
     requires a { a < length order.now.types }
     requires own_rank { own_rank ≡ rank order.now a }
     requires len { length rows.old.items ≡ length order.now.types }
@@ -97,7 +126,7 @@ fn fill_if_due(
     ensures others { OnOk result ((t : ℕ) → t ≢ a → slice_index_or rows.new.items t [] ≡ slice_index_or rows.old.items t []) }
     ensures own { OnOk result (rank order.now a ≢ due → slice_index_or rows.new.items a [] ≡ slice_index_or rows.old.items a []) }
     ensures filled { OnOk result (rank order.now a ≡ due → IsFilled order.now rows.new.items a) }
-    ensures refused { IsErrOf result SigError.NotAccepted → IsAccepted order.now → ⊥ }
+    ensures refused { IsErrOf result Stop.Refused → join_fault order.now ≢ None }
 {
     if own_rank == due {
         let row = join_row(alloc, order, rows.as_slice(), a)?;
@@ -112,13 +141,13 @@ fn join_row(
     order: &Order,
     rows: &[Row<Option<TypeId>>],
     a: usize,
-) -> Result<Row<Option<TypeId>>, SigError>
+) -> Result<Row<Option<TypeId>>, Stop>
     requires a { a < length order.now.types }
     requires len { length rows.now ≡ length order.now.types }
     requires filled { (t : ℕ) → t < length order.now.types → rank order.now t < rank order.now a → IsFilled order.now rows.now t }
     ensures row { IfOk result (λ row. row ≡ join_row order.now a) }
     ensures least { IfOk result (λ _. (b : ℕ) → b < length order.now.types → HasLeast order.now a b) }
-    ensures refused { IsErrOf result SigError.NotAccepted → IsAccepted order.now → ⊥ }
+    ensures refused { IsErrOf result Stop.Refused → join_fault order.now ≢ None }
 {
     let below = order.directly_below(alloc, a)?;
     let mut candidates = Vec::new(alloc);
@@ -138,7 +167,7 @@ fn join_of(
     a: usize,
     b: usize,
     candidates: &mut Vec<TypeId>,
-) -> Result<Option<TypeId>, SigError>
+) -> Result<Option<TypeId>, Stop>
     requires a { a < length order.now.types }
     requires b { b < length order.now.types }
     requires len { length rows.now ≡ length order.now.types }
@@ -146,7 +175,7 @@ fn join_of(
     requires filled { (t : ℕ) → Has below.now t → IsFilled order.now rows.now t }
     ensures value { IfOk result (λ j. j ≡ join order.now a b) }
     ensures least { IfOk result (λ _. HasLeast order.now a b) }
-    ensures refused { IsErrOf result SigError.NotAccepted → IsAccepted order.now → ⊥ }
+    ensures refused { IsErrOf result Stop.Refused → join_fault order.now ≢ None }
 {
     if order.is_above(b, a) {
         return Ok(Some(TypeId::of(a as u16)));
@@ -158,7 +187,7 @@ fn join_of(
     }
     match most_general(order, found) {
         Some(j) => Ok(Some(j)),
-        None => Err(SigError::NotAccepted),
+        None => Err(Stop::Refused),
     }
 }
 

@@ -1,38 +1,49 @@
 //! The extensional types, below which no other may be.
-ghost use Rattle.std.specs.Prelude.{◌≡◌, ℕ, ◌<◌, true, false, IfOk, IsErrOf, length};
-ghost use Rattle.ale_signature.specs.Order.{is_above, is_among, is_ext};
-ghost use Rattle.ale_signature.specs.Accepted.{IsAccepted};
-ghost use Rattle.ale_signature.specs.Stages.{tabulated, IsLast};
+ghost use Rattle.std.specs.Prelude.{◌≡◌, ◌<◌, ◌==◌, ◌&&◌, not, IfOk, IfErr, OnOk, None, length};
+ghost use Rattle.ale_signature.specs.Order.{is_above, is_ext, all_types};
+ghost use Rattle.ale_declared.specs.Lists.{is_among};
+ghost use Rattle.ale_signature.specs.Faults.{some, ext_fault};
+ghost use Rattle.ale_signature.specs.Refusals.{RefusesFor};
+ghost use Rattle.ale_signature.specs.Stages.{tabulated};
 
 use crate::error::SigError;
+use crate::fault::Fault;
+use crate::naming::refusal;
 use crate::order::Order;
-use std::alloc::Global;
+use std::alloc::{AllocError, Global};
 
-/// Which types are extensional; refused where another type is below such a one.
-pub fn ext_flags(alloc: Global, order: &Order) -> Result<Vec<bool>, SigError>
-    ensures value { IfOk result (λ v. v.items ≡ tabulated (is_ext order.now) (length order.now.types)) }
-    ensures last { IfOk result (λ _. (t : ℕ) → t < length order.now.types → is_ext order.now t ≡ true → IsLast order.now t) }
-    ensures refused { IsErrOf result SigError.NotAccepted → IsAccepted order.now → ⊥ }
+/// Refuses where another type is below an extensional one.
+pub fn check_ext(alloc: Global, order: &Order) -> Result<(), SigError>
+    ensures none { OnOk result (ext_fault order.now ≡ None) }
+    ensures refused { IfErr result (λ e. RefusesFor order.now (ext_fault order.now) e) }
+{
+    match not_maximal(order) {
+        Some(fault) => Err(refusal(alloc, order.outline(), fault)),
+        None => Ok(()),
+    }
+}
+
+/// The first extensional type below which another is.
+fn not_maximal(order: &Order) -> Option<Fault>
+    ensures { result ≡ ext_fault order.now }
+{
+    for t in 0..order.type_count() {
+        if is_among(t, order.outline().ext()) && !is_last(order, t) {
+            return Some(Fault::ExtNotMaximal(t));
+        }
+    }
+    None
+}
+
+/// Which types are extensional.
+pub fn ext_flags(alloc: Global, order: &Order) -> Result<Vec<bool>, AllocError>
+    ensures { IfOk result (λ v. v.items ≡ tabulated (is_ext order.now) (length order.now.types)) }
 {
     let mut flags = Vec::new(alloc);
     for t in 0..order.type_count() {
-        flags.push(ext_flag(order, t)?)?;
+        flags.push(is_among(t, order.outline().ext()))?;
     }
     Ok(flags)
-}
-
-/// Whether a type is extensional.
-fn ext_flag(order: &Order, t: usize) -> Result<bool, SigError>
-    requires { t < length order.now.types }
-    ensures value { IfOk result (λ flag. flag ≡ is_ext order.now t) }
-    ensures last { IfOk result (λ _. is_ext order.now t ≡ true → IsLast order.now t) }
-    ensures refused { IsErrOf result SigError.NotAccepted → IsAccepted order.now → ⊥ }
-{
-    let is_ext = is_among(t, order.outline().ext());
-    if is_ext && !is_last(order, t) {
-        return Err(SigError::NotAccepted);
-    }
-    Ok(is_ext)
 }
 
 /// Whether a number is among some.
@@ -50,11 +61,10 @@ fn is_among(x: usize, numbers: &[usize]) -> bool
 /// Whether no other type is below a type.
 fn is_last(order: &Order, t: usize) -> bool
     requires { t < length order.now.types }
-    ensures last { result ≡ true → IsLast order.now t }
-    ensures other { result ≡ false → IsLast order.now t → ⊥ }
+    ensures { result ≡ not (some (λ u. not (t == u) && is_above order.now t u) (all_types order.now)) }
 {
     for u in 0..order.type_count() {
-        if u != t && order.is_above(t, u) {
+        if t != u && order.is_above(t, u) {
             return false;
         }
     }

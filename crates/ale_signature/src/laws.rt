@@ -1,10 +1,13 @@
-ghost use Rattle.ale_signature.specs.Deciding.{AcceptsDecides};
-ghost use Rattle.ale_signature.specs.Laws.{SignatureLaw, DeclaredIsNumbered, SomeIsAccepted};
+ghost use Rattle.ale_signature.specs.Deciding.{AcceptsDecides, FaultsDecide};
+ghost use Rattle.ale_signature.specs.Laws.{SignatureLaw, RelationLaw, SomeIsAccepted};
+ghost use Rattle.ale_declared.specs.Numbering.{DeclaredIsNumbered};
 
-/// The laws of signatures: each accepted one obeys what the logic asks of a hierarchy, whatever is declared
-/// is well numbered, and some declarations with a feature are accepted.
+/// The laws of signatures: each accepted one obeys what the logic asks of a hierarchy, its functions tell
+/// the relations that define them, whatever is declared is well numbered, and some declarations with a
+/// feature are accepted.
 pub fn signature_law()
     ensures lawful { SignatureLaw }
+    ensures relations { RelationLaw }
     ensures numbered { DeclaredIsNumbered }
     ensures satisfiable { SomeIsAccepted }
 {}
@@ -12,4 +15,10 @@ pub fn signature_law()
 /// The tests decide what is accepted, for whatever is declared.
 pub fn acceptance_law()
     ensures { AcceptsDecides }
+{}
+
+/// The law of faults: a signature has no fault exactly where it is accepted, and else the one that is found
+/// first and no other.
+pub fn fault_law()
+    ensures { FaultsDecide }
 {}

@@ -1,30 +1,24 @@
-//! Type signatures: names and their numbers, the subtype order, joins and appropriateness.
+//! Type signatures: the subtype order, joins and appropriateness, for what is declared and accepted.
 #![tactic(auto)]
 
-mod decl;
 mod error;
+mod fault;
 mod ids;
 mod joins;
 mod last;
 mod laws;
-mod laws_numbering;
-mod names;
+mod naming;
 mod order;
-mod outline;
 mod restrictions;
-mod row;
 mod signature;
 mod sizes;
-mod text;
+mod stop;
 mod tops;
-mod written;
+mod witnesses;
 
-pub use decl::{Mention, SigDecl};
+pub use ale_declared::{Mention, Outline, SigDecl, numbering_law};
+pub use ale_text::{Row, Text};
 pub use error::SigError;
 pub use ids::{FeatId, TypeId};
-pub use laws::{acceptance_law, signature_law};
-pub use laws_numbering::numbering_law;
-pub use outline::Outline;
-pub use row::Row;
+pub use laws::{acceptance_law, fault_law, signature_law};
 pub use signature::Signature;
-pub use text::Text;

@@ -1,13 +1,18 @@
-ghost use Rattle.std.specs.Prelude.{◌≡◌, ℕ, ◌<◌, ◌↔◌, true, false, IsTrue, IfOk, IsErrOf, length, if◌then◌else◌};
+ghost use Rattle.std.specs.Prelude.{◌≡◌, ℕ, ◌<◌, ◌↔◌, true, false, IsTrue, IfOk, IfErr, length, if◌then◌else◌};
 ghost use Rattle.ale_relation.specs.Rows.{holds};
 ghost use Rattle.ale_signature.specs.Order.{is_above, rank};
-ghost use Rattle.ale_signature.specs.Accepted.{IsWellNumbered, IsAccepted};
+ghost use Rattle.ale_signature.specs.Faults.{limit_fault, cycle_fault};
+ghost use Rattle.ale_signature.specs.Refusals.{RefusesFor};
+ghost use Rattle.ale_declared.specs.Lists.{upto, first};
+ghost use Rattle.std.specs.Option.{option_or};
+ghost use Rattle.ale_declared.specs.Numbering.{IsWellNumbered};
 ghost use Rattle.ale_signature.specs.Stages.{IsOrdered, tabulated, directly_below, mentions_of};
 
-use crate::decl::Mention;
 use crate::error::SigError;
+use crate::fault::Fault;
 use crate::ids::TypeId;
-use crate::outline::Outline;
+use crate::naming::refusal;
+use ale_declared::{Mention, Outline};
 use ale_relation::{Relation, reachability};
 use std::alloc::{AllocError, Global};
 use std::marker::Model;
@@ -26,7 +31,7 @@ pub struct Order {
 }
 
 impl Model for Order {
-    ghost use Rattle.ale_signature.specs.Declarations.{Declared};
+    ghost use Rattle.ale_declared.specs.Declarations.{Declared};
     ghost use Rattle.ale_signature.specs.Stages.{IsOrdered, TellsLeads};
 
     ghost Value = { Declared };
@@ -44,14 +49,14 @@ impl Order {
     pub fn new(alloc: Global, outline: Outline) -> Result<Order, SigError>
         requires { IsWellNumbered outline }
         ensures ok { IfOk result (λ o. o ≡ outline) }
-        ensures refused { IsErrOf result SigError.NotAccepted → IsAccepted outline → ⊥ }
+        ensures refused { IfErr result (λ e. RefusesFor outline (option_or (limit_fault outline) (cycle_fault outline)) e) }
     {
-        if outline.type_count() > MOST_TYPES || outline.feat_count() > MOST_FEATURES {
-            return Err(SigError::NotAccepted);
+        if let Some(fault) = past_limit(&outline) {
+            return Err(refusal(alloc, &outline, fault));
         }
         let leads = reachability(alloc, outline.type_count(), outline.edges())?;
-        if has_cycle(&leads) {
-            return Err(SigError::NotAccepted);
+        if let Some(t) = first_cycle(&leads) {
+            return Err(refusal(alloc, &outline, Fault::SubCycle(t)));
         }
         Ok(Order { outline, leads })
     }
@@ -157,15 +162,27 @@ impl Order {
     }
 }
 
-/// Whether some number stands to itself.
-fn has_cycle(leads: &Relation) -> bool
-    ensures found { result ≡ true → (t : ℕ) × (t < leads.now.size) × (holds leads.now t t ≡ true) }
-    ensures none { result ≡ false → (t : ℕ) → t < leads.now.size → holds leads.now t t ≡ false }
+/// The limit that what is declared is past.
+fn past_limit(outline: &Outline) -> Option<Fault>
+    ensures { result ≡ limit_fault outline.now }
+{
+    if outline.type_count() > MOST_TYPES {
+        return Some(Fault::TooManyTypes);
+    }
+    if outline.feat_count() > MOST_FEATURES {
+        return Some(Fault::TooManyFeatures);
+    }
+    None
+}
+
+/// The first number that stands to itself.
+pub fn first_cycle(leads: &Relation) -> Option<usize>
+    ensures { result ≡ first (λ t. holds leads.now t t) (upto leads.now.size) }
 {
     for t in 0..leads.size() {
         if leads.holds(t, t) {
-            return true;
+            return Some(t);
         }
     }
-    false
+    None
 }

@@ -1,17 +1,21 @@
 //! Which type introduces each feature, and the restriction on each feature at each type.
-ghost use Rattle.std.specs.Prelude.{◌≡◌, ℕ, ◌<◌, IfOk, IfSome, OnOk, IsErrOf, IsTrue, Some, length, map};
+ghost use Rattle.std.specs.Prelude.{◌≡◌, ℕ, ◌<◌, ◌≢◌, IfOk, IfErr, IfSome, OnOk, IsErrOf, IsTrue, Some, None, length, map};
 ghost use Rattle.ale_relation.specs.Has.{Has};
 ghost use Rattle.ale_signature.specs.Order.{Introduces, intro, approp, features, join_of_some};
-ghost use Rattle.ale_signature.specs.Accepted.{IsAccepted};
+ghost use Rattle.ale_signature.specs.Faults.{when, lacks_intro, two_intros, intro_fault, clash_fault};
+ghost use Rattle.ale_signature.specs.Refusals.{RefusesFor};
 ghost use Rattle.ale_signature.specs.Stages.{IsOrdered, tabulated, are_below, HasLeast, join_rows, mentions_of, are_within, restricted, HaveNoJoin, HasRestriction, narrowed, restriction_row, restriction_rows, feature_lists};
 
-use crate::decl::Mention;
 use crate::error::SigError;
 use crate::ids::{FeatId, TypeId};
 use crate::joins::{entry, join_at};
+use crate::naming::refusal;
 use crate::order::Order;
-use crate::row::Row;
+use crate::stop::Stop;
 use crate::tops::most_general;
+use crate::witnesses::{two_intros, value_clash};
+use ale_declared::Mention;
+use ale_text::Row;
 use std::alloc::{AllocError, Global};
 
 /// The types that introduce the features; refused where no type that mentions a feature is above all
@@ -19,7 +23,7 @@ use std::alloc::{AllocError, Global};
 pub fn intros(alloc: Global, order: &Order) -> Result<Vec<TypeId>, SigError>
     ensures value { IfOk result (λ v. v.items ≡ tabulated (intro order.now) (length order.now.features)) }
     ensures introduces { IfOk result (λ _. (f : ℕ) → f < length order.now.features → Introduces order.now f (intro order.now f)) }
-    ensures refused { IsErrOf result SigError.NotAccepted → IsAccepted order.now → ⊥ }
+    ensures refused { IfErr result (λ e. RefusesFor order.now (intro_fault order.now) e) }
 {
     let mut intros = Vec::new(alloc);
     for f in 0..order.feat_count() {
@@ -33,13 +37,16 @@ fn intro_of(alloc: Global, order: &Order, f: usize) -> Result<TypeId, SigError>
     requires { f < length order.now.features }
     ensures value { IfOk result (λ t. t ≡ intro order.now f) }
     ensures introduces { IfOk result (λ t. Introduces order.now f t) }
-    ensures refused { IsErrOf result SigError.NotAccepted → IsAccepted order.now → ⊥ }
+    ensures refused { IfErr result (λ e. RefusesFor order.now (when (lacks_intro order.now f) (two_intros order.now f)) e) }
 {
     let mentions = order.mentions_of(alloc, f)?;
     let types = types_at(alloc, order, mentions.as_slice())?;
     match most_general(order, types.as_slice()) {
         Some(t) => Ok(t),
-        None => Err(SigError::NotAccepted),
+        None => {
+            let fault = two_intros(alloc, order, f, types.as_slice())?;
+            Err(refusal(alloc, order.outline(), fault))
+        }
     }
 }
 
@@ -67,7 +74,40 @@ pub fn restrictions(
     requires least { (a b : ℕ) → a < length order.now.types → b < length order.now.types → HasLeast order.now a b }
     ensures rows { IfOk result (λ rows. rows.items ≡ restriction_rows order.now) }
     ensures there { IfOk result (λ _. (f t : ℕ) → f < length order.now.features → t < length order.now.types → HasRestriction order.now f t) }
-    ensures refused { IsErrOf result SigError.NotAccepted → IsAccepted order.now → ⊥ }
+    ensures refused { IfErr result (λ e. RefusesFor order.now (clash_fault order.now) e) }
+{
+    match all_restrictions(alloc, order, joins) {
+        Ok(rows) => Ok(rows),
+        Err(Stop::NoMemory) => Err(SigError::NoMemory),
+        Err(Stop::Refused) => Err(clash_refusal(alloc, order, joins)),
+    }
+}
+
+/// The refusal where restrictions that apply together have no join.
+fn clash_refusal(alloc: Global, order: &Order, joins: &[Row<Option<TypeId>>]) -> SigError
+    requires joins { joins.now ≡ join_rows order.now }
+    requires least { (a b : ℕ) → a < length order.now.types → b < length order.now.types → HasLeast order.now a b }
+    requires clash { clash_fault order.now ≢ None }
+    ensures { RefusesFor order.now (clash_fault order.now) result }
+{
+    match value_clash(alloc, order, joins) {
+        Ok(Some(fault)) => refusal(alloc, order.outline(), fault),
+        Ok(None) => unreachable!(),
+        Err(_) => SigError::NoMemory,
+    }
+}
+
+/// The restrictions on all features at all types, by features.
+fn all_restrictions(
+    alloc: Global,
+    order: &Order,
+    joins: &[Row<Option<TypeId>>],
+) -> Result<Vec<Row<Option<TypeId>>>, Stop>
+    requires joins { joins.now ≡ join_rows order.now }
+    requires least { (a b : ℕ) → a < length order.now.types → b < length order.now.types → HasLeast order.now a b }
+    ensures rows { IfOk result (λ rows. rows.items ≡ restriction_rows order.now) }
+    ensures there { IfOk result (λ _. (f t : ℕ) → f < length order.now.features → t < length order.now.types → HasRestriction order.now f t) }
+    ensures refused { IsErrOf result Stop.Refused → clash_fault order.now ≢ None }
 {
     let mut rows = Vec::new(alloc);
     for f in 0..order.feat_count() {
@@ -82,13 +122,13 @@ fn restriction_row(
     order: &Order,
     joins: &[Row<Option<TypeId>>],
     f: usize,
-) -> Result<Row<Option<TypeId>>, SigError>
+) -> Result<Row<Option<TypeId>>, Stop>
     requires f { f < length order.now.features }
     requires joins { joins.now ≡ join_rows order.now }
     requires least { (a b : ℕ) → a < length order.now.types → b < length order.now.types → HasLeast order.now a b }
     ensures row { IfOk result (λ row. row ≡ restriction_row order.now f) }
     ensures there { IfOk result (λ _. (t : ℕ) → t < length order.now.types → HasRestriction order.now f t) }
-    ensures refused { IsErrOf result SigError.NotAccepted → IsAccepted order.now → ⊥ }
+    ensures refused { IsErrOf result Stop.Refused → clash_fault order.now ≢ None }
 {
     let mentions = order.mentions_of(alloc, f)?;
     let mut types = Vec::new(alloc);
@@ -101,13 +141,13 @@ fn restriction_row(
 
 /// The join of the restrictions of those of the mentions that apply at a type. The memory for a list of
 /// them is lent.
-fn restriction(
+pub fn restriction(
     order: &Order,
     joins: &[Row<Option<TypeId>>],
     mentions: &[Mention],
     t: usize,
     types: &mut Vec<TypeId>,
-) -> Result<Option<TypeId>, SigError>
+) -> Result<Option<TypeId>, Stop>
     requires ordered { IsOrdered order.now }
     requires t { t < length order.now.types }
     requires joins { joins.now ≡ join_rows order.now }
@@ -115,7 +155,7 @@ fn restriction(
     requires mentions { IsTrue (are_within (length order.now.types) mentions.now) }
     ensures value { IfOk result (λ r. r ≡ join_of_some order.now (restricted order.now t mentions.now)) }
     ensures there { IfOk result (λ r. (s : ℕ) → Has (restricted order.now t mentions.now) s → (k : ℕ) × (r ≡ Some k)) }
-    ensures refused { IsErrOf result SigError.NotAccepted → HaveNoJoin order.now (restricted order.now t mentions.now) }
+    ensures refused { IsErrOf result Stop.Refused → HaveNoJoin order.now (restricted order.now t mentions.now) }
 {
     find_restrictions(order, mentions, t, types)?;
     join_all(order, joins, types.as_slice())
@@ -146,14 +186,14 @@ fn join_all(
     order: &Order,
     joins: &[Row<Option<TypeId>>],
     types: &[TypeId],
-) -> Result<Option<TypeId>, SigError>
+) -> Result<Option<TypeId>, Stop>
     requires ordered { IsOrdered order.now }
     requires joins { joins.now ≡ join_rows order.now }
     requires least { (a b : ℕ) → a < length order.now.types → b < length order.now.types → HasLeast order.now a b }
     requires types { IsTrue (are_below (length order.now.types) types.now) }
     ensures value { IfOk result (λ r. r ≡ join_of_some order.now types.now) }
     ensures there { IfOk result (λ r. (s : ℕ) → Has types.now s → (k : ℕ) × (r ≡ Some k)) }
-    ensures refused { IsErrOf result SigError.NotAccepted → HaveNoJoin order.now types.now }
+    ensures refused { IsErrOf result Stop.Refused → HaveNoJoin order.now types.now }
 {
     let mut found = None;
     for &t in types {
@@ -168,19 +208,19 @@ fn narrowed(
     joins: &[Row<Option<TypeId>>],
     found: Option<TypeId>,
     t: TypeId,
-) -> Result<TypeId, SigError>
+) -> Result<TypeId, Stop>
     requires joins { joins.now ≡ join_rows order.now }
     requires t { t < length order.now.types }
     requires found { IfSome found (λ j. j < length order.now.types) }
     ensures value { IfOk result (λ k. narrowed order.now found t ≡ Some k) }
     ensures inside { IfOk result (λ k. k < length order.now.types) }
-    ensures refused { IsErrOf result SigError.NotAccepted → narrowed order.now found t ≡ None }
+    ensures refused { IsErrOf result Stop.Refused → narrowed order.now found t ≡ None }
 {
     match found {
         None => Ok(t),
         Some(j) => match join_at(order, joins, j.index(), t.index()) {
             Some(k) => Ok(k),
-            None => Err(SigError::NotAccepted),
+            None => Err(Stop::Refused),
         },
     }
 }

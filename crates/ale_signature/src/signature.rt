@@ -1,18 +1,17 @@
-ghost use Rattle.std.specs.Prelude.{◌≡◌, true, false, ◌<◌, ◌↔◌, ℕ, IfOk, IsErrOf, IsTrue, IfSome, IfNone, List, length, map, Some, None, slice_get, encode_utf8_all};
+ghost use Rattle.std.specs.Prelude.{◌≡◌, ◌≢◌, true, false, ◌<◌, ◌↔◌, ℕ, IfOk, IfErr, IsTrue, IfSome, IfNone, List, length, map, Some, None, slice_get, encode_utf8_all};
 ghost use Rattle.std.specs.Str.{chars};
 ghost use Rattle.ale_relation.specs.Has.{Has};
 ghost use Rattle.ale_signature.specs.Hierarchy.{IsLawful};
 
-use crate::decl::SigDecl;
 use crate::error::SigError;
 use crate::ids::{FeatId, TypeId};
 use crate::joins::{join_at, joins};
 use crate::last::ext_flags;
 use crate::order::Order;
-use crate::outline::Outline;
 use crate::restrictions::{feature_lists, intros, restriction_at, restrictions};
-use crate::row::Row;
-use crate::sizes::check_sizes;
+use crate::sizes::check_fills;
+use ale_declared::{Outline, SigDecl};
+use ale_text::Row;
 use std::alloc::Global;
 use std::marker::Model;
 
@@ -33,7 +32,7 @@ pub struct Signature {
 }
 
 impl Model for Signature {
-    ghost use Rattle.ale_signature.specs.Declarations.{Declared};
+    ghost use Rattle.ale_declared.specs.Declarations.{Declared};
     ghost use Rattle.ale_signature.specs.Stages.{IsTabled};
 
     ghost Value = { Declared };
@@ -44,21 +43,52 @@ impl Model for Signature {
 }
 
 impl Signature {
-    ghost use Rattle.ale_signature.specs.Declarations.{declared};
+    ghost use Rattle.ale_declared.specs.Declarations.{declared};
     ghost use Rattle.ale_signature.specs.Order.{IsAbove, IsJoin, Introduces, IsRestriction, Applies, is_above, join, approp, intro, features, is_ext, hierarchy};
     ghost use Rattle.ale_signature.specs.Accepted.{IsAccepted};
-    ghost use Rattle.ale_signature.specs.Refusals.{accepts};
-    ghost use Rattle.ale_signature.specs.Names.{named, name_of};
-    ghost use Rattle.ale_signature.specs.declared.decl.Mention.{Mention};
+    ghost use Rattle.ale_signature.specs.Faults.{accepts, fault_of};
+    ghost use Rattle.ale_signature.specs.Refusals.{IsFault, RefusesFor, RefusesWhere};
+    ghost use Rattle.ale_signature.specs.declared.fault.Fault.TheVariants.{TooManyTypes, TooManyFeatures, SubCycle, NoJoin, TwoIntros, ValueClash, Loop, ExtNotMaximal, FillTooLarge};
+    ghost use Rattle.ale_declared.specs.Names.{named, name_of};
+    ghost use Rattle.ale_declared.specs.declared.decl.Mention.{Mention};
 
-    /// The signature that the declarations give.
+    /// The signature that the declarations give. It is refused for the first of these that holds, by the names
+    /// of the first types and features that show it; `NoMemory` may come in the place of each.
     pub fn build(alloc: Global, decls: &[SigDecl]) -> Result<Signature, SigError>
         ensures ok { IfOk result (λ s. s ≡ declared decls.now) }
         ensures accepts { IfOk result (λ s. accepts (declared decls.now) ≡ true) }
-        ensures refuses { IsErrOf result SigError.NotAccepted → accepts (declared decls.now) ≡ false }
         ensures accepted { IfOk result (λ s. IsAccepted (declared decls.now)) }
         ensures lawful { IfOk result (λ s. IsLawful (hierarchy s)) }
-        ensures refused { IsErrOf result SigError.NotAccepted → IsAccepted (declared decls.now) → ⊥ }
+        ensures no_fault { IfOk result (λ _. fault_of (declared decls.now) ≡ None) }
+        ensures exact { IfErr result (λ e. RefusesFor (declared decls.now) (fault_of (declared decls.now)) e) }
+        ensures refuses { IfErr result (λ e. e ≢ SigError.NoMemory → accepts (declared decls.now) ≡ false) }
+        ensures too_many_types { RefusesWhere result SigError.TooManyTypes (IsFault (declared decls.now) TooManyTypes) }
+        ensures too_many_features { RefusesWhere result SigError.TooManyFeatures (IsFault (declared decls.now) TooManyFeatures) }
+        ensures sub_cycle { (x : List ℕ) → RefusesWhere result (SigError.SubCycle x)
+            ((t : ℕ) × (x ≡ name_of (declared decls.now).types t) × IsFault (declared decls.now) (SubCycle t)) }
+        ensures no_join { (x y z w : List ℕ) → RefusesWhere result (SigError.NoJoin x y z w)
+            ((a b c e : ℕ) × (x ≡ name_of (declared decls.now).types a) × (y ≡ name_of (declared decls.now).types b)
+            × (z ≡ name_of (declared decls.now).types c) × (w ≡ name_of (declared decls.now).types e) × IsFault (declared decls.now) (NoJoin a b c e)) }
+        ensures two_intros { (x y z : List ℕ) → RefusesWhere result (SigError.TwoIntros x y z)
+            ((f a b : ℕ) × (x ≡ name_of (declared decls.now).features f) × (y ≡ name_of (declared decls.now).types a)
+            × (z ≡ name_of (declared decls.now).types b) × IsFault (declared decls.now) (TwoIntros f a b)) }
+        ensures value_clash { (x y : List ℕ) → RefusesWhere result (SigError.ValueClash x y)
+            ((t f : ℕ) × (x ≡ name_of (declared decls.now).types t) × (y ≡ name_of (declared decls.now).features f) × IsFault (declared decls.now) (ValueClash t f)) }
+        ensures loop_back { (x : List ℕ) → RefusesWhere result (SigError.Loop x)
+            ((t : ℕ) × (x ≡ name_of (declared decls.now).types t) × IsFault (declared decls.now) (Loop t)) }
+        ensures ext_not_maximal { (x : List ℕ) → RefusesWhere result (SigError.ExtNotMaximal x)
+            ((t : ℕ) × (x ≡ name_of (declared decls.now).types t) × IsFault (declared decls.now) (ExtNotMaximal t)) }
+        ensures fill_too_large { (x : List ℕ) → RefusesWhere result (SigError.FillTooLarge x)
+            ((t : ℕ) × (x ≡ name_of (declared decls.now).types t) × IsFault (declared decls.now) (FillTooLarge t)) }
+    {
+        Signature::of_decls(alloc, decls)
+    }
+
+    /// The signature that the declarations give, or why they give none.
+    fn of_decls(alloc: Global, decls: &[SigDecl]) -> Result<Signature, SigError>
+        ensures ok { IfOk result (λ s. s ≡ declared decls.now) }
+        ensures no_fault { IfOk result (λ _. fault_of (declared decls.now) ≡ None) }
+        ensures exact { IfErr result (λ e. RefusesFor (declared decls.now) (fault_of (declared decls.now)) e) }
     {
         let outline = Outline::read(alloc, decls)?;
         let order = Order::new(alloc, outline)?;
@@ -68,14 +98,14 @@ impl Signature {
     /// The signature of this order.
     fn of_order(alloc: Global, order: Order) -> Result<Signature, SigError>
         ensures ok { IfOk result (λ s. s ≡ order) }
-        ensures accepted { IfOk result (λ _. IsAccepted order) }
-        ensures refused { IsErrOf result SigError.NotAccepted → IsAccepted order → ⊥ }
+        ensures no_fault { IfOk result (λ _. fault_of order ≡ None) }
+        ensures exact { IfErr result (λ e. RefusesFor order (fault_of order) e) }
     {
         let joins = joins(alloc, &order)?;
         let intros = intros(alloc, &order)?;
         let restrictions = restrictions(alloc, &order, joins.as_slice())?;
         let lists = feature_lists(alloc, &order, restrictions.as_slice())?;
-        check_sizes(alloc, &order, restrictions.as_slice(), lists.as_slice())?;
+        check_fills(alloc, &order, restrictions.as_slice(), lists.as_slice())?;
         let ext = ext_flags(alloc, &order)?;
         Ok(Signature {
             order,

@@ -1,6 +1,6 @@
 ghost use Rattle.std.specs.Prelude.{◌≡◌, ℕ, ◌<◌, IsTrue, IfSome, IfNone, [], length};
 ghost use Rattle.ale_relation.specs.Has.{Has};
-ghost use Rattle.ale_signature.specs.Lists.{first, every};
+ghost use Rattle.ale_declared.specs.Lists.{first, every};
 ghost use Rattle.ale_signature.specs.Order.{is_above};
 ghost use Rattle.ale_signature.specs.Stages.{IsTop, are_below};
 

@@ -2,7 +2,7 @@
 use Rattle.std.proofs.Common.{◌≡◌, ℕ, zero, suc, ◌≤◌, nat_lt, IsTrue, if◌then◌else◌, Option, Some, None, List, [], ◌∷◌, ◌++◌, length, refl, ap, ◌∙◌, append_assoc, length-append, arith}
 use Rattle.std.specs.Prelude.{codes}
 use Rattle.std.proofs.lemmas.Bool.{ltb-true}
-use Rattle.ale_signature.specs.declared.decl.SigDecl.{SigDecl}
+use Rattle.ale_declared.specs.declared.decl.SigDecl.{SigDecl}
 use Rattle.ale_source.specs.declared.lexeme.Mark.TheVariants.{CloseSquare, Comma, End}
 use Rattle.ale_source.specs.declared.lexeme.Lexeme.{Lexeme}
 use Rattle.ale_source.specs.declared.lexeme.Lexeme.TheVariants.{Name, Sign}

@@ -1,7 +1,7 @@
 -- Reading part after part: what has been read stands before what is still read.
 use Rattle.std.proofs.Common.{◌≡◌, ℕ, zero, suc, ◌+◌, ◌-◌, ◌<◌, ◌≤◌, false, nat_eq, Option, Some, None, option_map, List, [], ◌∷◌, ◌++◌, length, refl, sym, ap, append_assoc, arith}
 use Rattle.std.proofs.lemmas.List.{append-nil}
-use Rattle.ale_signature.specs.declared.decl.SigDecl.{SigDecl}
+use Rattle.ale_declared.specs.declared.decl.SigDecl.{SigDecl}
 use Rattle.ale_source.specs.declared.error.ReadError.{ReadError}
 use Rattle.ale_source.specs.declared.error.ReadError.TheVariants.{NotTheForm, NoMemory}
 use Rattle.ale_source.specs.declared.lexeme.Mark.{Mark}

@@ -1,6 +1,6 @@
 -- What a call that reads exactly answers, in the words of the grammar; and that a text has one reading.
 use Rattle.std.proofs.Common.{◌≡◌, ℕ, Option, Some, Result, Ok, Err, List, IfOk, sym, ◌∙◌}
-use Rattle.ale_signature.specs.declared.decl.SigDecl.{SigDecl}
+use Rattle.ale_declared.specs.declared.decl.SigDecl.{SigDecl}
 use Rattle.ale_source.specs.declared.error.ReadError.{ReadError}
 use Rattle.ale_source.specs.declared.error.ReadError.TheVariants.{NotTheForm, NoMemory}
 use Rattle.ale_source.specs.Results.{Gives}

@@ -1,8 +1,8 @@
 -- What is read of lists, declarations and commands is what the grammar says.
 use Rattle.std.proofs.Common.{◌≡◌, ℕ, zero, suc, Bool, true, false, IsTrue, if◌then◌else◌, Option, Some, None, List, [], ◌∷◌, ◌++◌, length, refl, sym, ap, subst, ◌∙◌, append_assoc}
 use Rattle.std.specs.Prelude.{codes}
-use Rattle.ale_signature.specs.declared.decl.SigDecl.{SigDecl}
-use Rattle.ale_signature.specs.declared.decl.SigDecl.TheVariants.{Kind}
+use Rattle.ale_declared.specs.declared.decl.SigDecl.{SigDecl}
+use Rattle.ale_declared.specs.declared.decl.SigDecl.TheVariants.{Kind}
 use Rattle.ale_source.specs.declared.lexeme.Mark.TheVariants.{OpenSquare, CloseSquare, Comma, Colon, End}
 use Rattle.ale_source.specs.declared.lexeme.Lexeme.{Lexeme}
 use Rattle.ale_source.specs.declared.lexeme.Lexeme.TheVariants.{Name, Sign}

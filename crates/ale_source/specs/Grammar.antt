@@ -1,8 +1,8 @@
 -- The grammar of the first forms of text, over lexemes: which lexemes stand for which declarations and commands.
 -- Source of the forms: `sub` and `intro`, and the description language, in the ALE 3.2 User's Guide.
 use Rattle.std.specs.Prelude.{ℕ, IsTrue, Option, Some, None, List, [], ◌∷◌, ◌++◌, codes}
-use Rattle.ale_signature.specs.declared.decl.SigDecl.{SigDecl}
-use Rattle.ale_signature.specs.declared.decl.SigDecl.TheVariants.{Kind}
+use Rattle.ale_declared.specs.declared.decl.SigDecl.{SigDecl}
+use Rattle.ale_declared.specs.declared.decl.SigDecl.TheVariants.{Kind}
 use Rattle.ale_source.specs.declared.lexeme.Mark.{Mark}
 use Rattle.ale_source.specs.declared.lexeme.Mark.TheVariants.{OpenSquare, CloseSquare, OpenRound, CloseRound, Comma, Colon, End}
 use Rattle.ale_source.specs.declared.lexeme.Lexeme.{Lexeme}

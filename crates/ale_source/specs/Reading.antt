@@ -1,9 +1,9 @@
 -- The reading of lexemes as functions, by levels. A reader gives None where nothing of its
 -- form stands at the front of the lexemes.
 use Rattle.std.specs.Prelude.{ℕ, zero, suc, ◌==◌, if◌then◌else◌, Option, Some, None, List, [], ◌∷◌, length, codes}
-use Rattle.ale_signature.specs.Names.{same_name}
-use Rattle.ale_signature.specs.declared.decl.SigDecl.{SigDecl}
-use Rattle.ale_signature.specs.declared.decl.SigDecl.TheVariants.{Kind}
+use Rattle.ale_declared.specs.Names.{same_name}
+use Rattle.ale_declared.specs.declared.decl.SigDecl.{SigDecl}
+use Rattle.ale_declared.specs.declared.decl.SigDecl.TheVariants.{Kind}
 use Rattle.ale_source.specs.declared.lexeme.Mark.{Mark}
 use Rattle.ale_source.specs.declared.lexeme.Mark.TheVariants.{OpenSquare, CloseSquare, OpenRound, CloseRound, Comma, Colon, End}
 use Rattle.ale_source.specs.declared.lexeme.Lexeme.{Lexeme}

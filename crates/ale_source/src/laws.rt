@@ -1,5 +1,5 @@
 ghost use Rattle.std.specs.Prelude.{◌≡◌, ℕ, List, Option};
-ghost use Rattle.ale_signature.specs.declared.decl.SigDecl.{SigDecl};
+ghost use Rattle.ale_declared.specs.declared.decl.SigDecl.{SigDecl};
 ghost use Rattle.ale_source.specs.Terms.{TermData};
 ghost use Rattle.ale_source.specs.Grammar.{GrammarText, CommandText};
 

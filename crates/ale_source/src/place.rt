@@ -1,6 +1,6 @@
 ghost use Rattle.std.specs.Prelude.{◌≡◌, option_map, option_copied};
 ghost use Rattle.std.specs.Str.{chars};
-ghost use Rattle.ale_signature.specs.Names.{same_name};
+ghost use Rattle.ale_declared.specs.Names.{same_name};
 ghost use Rattle.ale_source.specs.Reading.{past, past_word, name_at};
 
 use crate::lexeme::{Lexeme, Mark};

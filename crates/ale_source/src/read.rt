@@ -3,7 +3,7 @@ ghost use Rattle.ale_source.specs.declared.error.ReadError.TheVariants.{NotTheFo
 ghost use Rattle.ale_source.specs.Results.{Gives};
 ghost use Rattle.ale_source.specs.Terms.{TermData, term_data};
 ghost use Rattle.ale_source.specs.Grammar.{GrammarText, CommandText};
-ghost use Rattle.ale_signature.specs.declared.decl.SigDecl.{SigDecl};
+ghost use Rattle.ale_declared.specs.declared.decl.SigDecl.{SigDecl};
 ghost use Rattle.ale_source.specs.Reading.{satisfier_of, command_at, command_of, grammar_of};
 
 use crate::declaration::declarations;

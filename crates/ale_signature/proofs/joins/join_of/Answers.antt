@@ -2,6 +2,7 @@ use Rattle.std.proofs.Common.{◌∙◌, sym, ap, subst, ℕ, List, Some}
 use Rattle.ale_relation.specs.Has.{Has}
 use Rattle.ale_signature.proofs.StageLemmas.{directly_below-below}
 use Rattle.ale_signature.proofs.JoinTableLemmas.{IsDue-from, candidates-below, empty_list, join_back, join_without, join_top, join_lacking, has_element}
+use Rattle.ale_signature.proofs.StageFaults.{HasJoins-found}
 use Rattle.ale_signature.proofs.joins.join_of.Goals as goal
 
 pub returns-then-is_above-clause-value : goal.returns-then-is_above-clause-value
@@ -50,9 +51,9 @@ returns-in-Some-clause-least c =
 
 pub returns-in-None-clause-refused : goal.returns-in-None-clause-refused
 returns-in-None-clause-refused c =
-    λ _ accepted.
+    λ _ no_fault.
     let due = IsDue-from c.args.order.now c.args.rows.now c.args.a c.args.b c.args.below.now c.is_above.result c.is_above.ensures.ordered c.requires.a c.requires.b c.is_above.ensures.value c.if-is_above.false c.requires.below c.requires.filled in
     let is = c.as_slice-found.ensures.value ∙ c.in_ok-find_candidates.ensures in
     let none = rw is at (sym c.most_general.ensures ∙ c.in-None.is) in
     let some = has_element c.as_slice-found.result.now c.is_empty.result c.is_empty.ensures c.if-is_empty.false in
-    join_lacking c.args.order.now c.args.a c.args.b c.args.below.now some.0 due (subst (λ (js : List ℕ). Has js some.0) is some.1) none accepted
+    join_lacking c.args.order.now c.args.a c.args.b c.args.below.now some.0 due (subst (λ (js : List ℕ). Has js some.0) is some.1) none (HasJoins-found c.args.order.now c.is_above.ensures.ordered no_fault)

@@ -1,5 +1,5 @@
 use Rattle.std.proofs.Common.{◌≡◌, drop}
-use Rattle.ale_signature.specs.Order.{is_among}
+use Rattle.ale_declared.specs.Lists.{is_among}
 use Rattle.ale_signature.proofs.last.is_among.Given as goal
 
 abbrev pub invariant-loop-y : goal.invariant-loop-y

@@ -1,7 +1,9 @@
-use Rattle.std.proofs.Common.{◌∙◌, sym, map, ap, length}
-use Rattle.ale_signature.specs.declared.decl.Mention.{Mention}
+use Rattle.std.proofs.Common.{◌∙◌, sym, map, ap, length, Some}
+use Rattle.ale_declared.specs.declared.decl.Mention.{Mention}
 use Rattle.ale_signature.proofs.StageLemmas.{mentions_of-within}
-use Rattle.ale_signature.proofs.RestrictionLemmas.{ats-below, intro_found, intro_lacking}
+use Rattle.ale_signature.proofs.RestrictionLemmas.{ats-below, intro_found}
+use Rattle.ale_signature.specs.Faults.{when, lacks_intro, two_intros}
+use Rattle.ale_signature.proofs.StageFaults.{refuses_as, lacks_intro_at}
 use Rattle.ale_signature.proofs.restrictions.intro_of.Goals as goal
 
 pub types_at-requires : goal.types_at-requires
@@ -26,7 +28,10 @@ returns-in-Some-clause-introduces c =
 
 pub returns-clause-refused : goal.returns-clause-refused
 returns-clause-refused c =
-    λ _ accepted.
+    let d = c.args.order.now in
+    let f = c.args.f in
     let types = c.in_ok-types.ensures ∙ ap (map (λ (m : Mention). m.at)) (c.as_slice.ensures.value ∙ c.in_ok-mentions.ensures.value) in
     let none = rw (c.as_slice-2.ensures.value, types) at (sym c.most_general.ensures ∙ c.in-None.is) in
-    intro_lacking c.args.order.now c.args.f c.mentions_of.ensures.ordered c.requires none accepted
+    refuses_as d (Some c.in_ok-fault-in-None.fault) (when (lacks_intro d f) (two_intros d f)) c.refusal.result
+    (sym (lacks_intro_at d f none ∙ ap Some (sym c.in_ok-fault-in-None.ensures)))
+    (rw c.outline.ensures.value at c.refusal.ensures)

@@ -1,6 +1,6 @@
 use Rattle.std.proofs.Common.{ℕ, ◌+◌, ◌<◌, ◌++◌, drop, length, subst, Option, List}
 use Rattle.std.proofs.lemmas.Result.{err_from_is_err_and}
-use Rattle.ale_signature.specs.declared.error.SigError.TheVariants.{NotAccepted}
+use Rattle.ale_signature.specs.declared.stop.Stop.TheVariants.{Refused}
 use Rattle.ale_relation.specs.Has.{Has}
 use Rattle.ale_signature.proofs.LoopLemmas.{IsErrOf-moved, drop_item, drop_end, Has_item, are_below-at, IfSome-at}
 use Rattle.ale_signature.proofs.RestrictionLemmas.{IsLeft, listed, IsLeft_narrowed, HaveNoJoin_narrowed, join_of_some-found, found_there}
@@ -17,7 +17,7 @@ returns-in_err-narrowed-clause-refused c =
     let p = err_from_is_err_and c.from_residual.result c.from_residual.ensures.1 in
     rw (p.1, p.2) (λ h. HaveNoJoin_narrowed d c.loop-t.found t (drop (i + 1) xs) xs c.requires.ordered
     (λ j e. c.requires.least j t (IfSome-at (λ (j : ℕ). j < length d.types) c.loop-t.found j c.loop-t.invariant.inside e) (are_below-at (length d.types) xs t c.requires.types here))
-    (c.in_err-narrowed.ensures.refused (IsErrOf-moved (Option ℕ) ℕ c.in_err-narrowed.field-0.0 NotAccepted h)) left)
+    (c.in_err-narrowed.ensures.refused (IsErrOf-moved (Option ℕ) ℕ c.in_err-narrowed.field-0.0 Refused h)) left)
 
 pub loop-t-preserved : goal.loop-t-preserved
 loop-t-preserved c =

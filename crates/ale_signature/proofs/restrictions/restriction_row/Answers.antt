@@ -1,6 +1,6 @@
 use Rattle.std.proofs.Common.{ℕ, ◌<◌, ◌∙◌, sym, Option, List, length, arith}
 use Rattle.std.proofs.lemmas.Result.{err_from_is_err_and}
-use Rattle.ale_signature.specs.declared.error.SigError.TheVariants.{NotAccepted}
+use Rattle.ale_signature.specs.declared.stop.Stop.TheVariants.{Refused}
 use Rattle.ale_signature.specs.Order.{approp}
 use Rattle.ale_signature.specs.Stages.{HasRestriction}
 use Rattle.ale_signature.proofs.LoopLemmas.{IsErrOf-moved}
@@ -8,6 +8,7 @@ use Rattle.ale_signature.proofs.StageLemmas.{mentions_of-within}
 use Rattle.ale_signature.proofs.JoinTableLemmas.{below_next}
 use Rattle.ale_signature.proofs.TabulatedLemmas.{tabulated_more}
 use Rattle.ale_signature.proofs.RestrictionLemmas.{approp_is, HasRestriction-from, restrictions_lack}
+use Rattle.ale_signature.proofs.StageFaults.{HasRestrictions-found}
 use Rattle.ale_signature.proofs.restrictions.restriction_row.Goals as goal
 
 pub restriction-requires-clause-mentions : goal.restriction-requires-clause-mentions
@@ -20,10 +21,10 @@ returns-in_err-restriction-clause-refused c =
     let is = c.as_slice.ensures.value ∙ c.in_ok-mentions.ensures.value in
     let below : c.loop-t.t < length d.types = omega arith in
     let p = err_from_is_err_and c.from_residual-in_err-restriction.result c.from_residual-in_err-restriction.ensures.1 in
-    rw (p.1, p.2) (λ h accepted.
+    rw (p.1, p.2) (λ h no_fault.
     restrictions_lack d c.args.f c.loop-t.t c.mentions_of.ensures.ordered.numbered below
-    (rw is at (c.in_err-restriction.ensures.refused (IsErrOf-moved (List (Option ℕ)) (Option ℕ) c.in_err-restriction.field-0.0 NotAccepted h)))
-    accepted)
+    (rw is at (c.in_err-restriction.ensures.refused (IsErrOf-moved (List (Option ℕ)) (Option ℕ) c.in_err-restriction.field-0.0 Refused h)))
+    (HasRestrictions-found d c.mentions_of.ensures.ordered no_fault))
 
 pub loop-t-preserved : goal.loop-t-preserved
 loop-t-preserved c =

@@ -1,5 +1,5 @@
 use Rattle.std.proofs.Common.{◌≡◌, ◌++◌, map, drop}
-use Rattle.ale_signature.specs.declared.decl.Mention.{Mention}
+use Rattle.ale_declared.specs.declared.decl.Mention.{Mention}
 use Rattle.ale_signature.proofs.restrictions.types_at.Given as goal
 
 abbrev pub invariant-loop-m : goal.invariant-loop-m

@@ -11,16 +11,16 @@ part_size-requires-clause-f c =
 
 pub returns-in-None-clause-unknown : goal.returns-in-None-clause-unknown
 returns-in-None-clause-unknown c =
-    λ _.
+    λ _ _.
     let here : Has c.args.listed.now c.f-item.result = Has_item c.args.listed.now c.loop-f.f-index c.f-item.result c.loop-f-test.true c.f-item.is in
     (c.f-item.result, features-below c.args.order.now c.args.t c.f-item.result (rw c.requires.listed at here), c.in-None.ensures.unknown)
 
-pub returns-then-total-gt-MOST_NODES-clause-refused : goal.returns-then-total-gt-MOST_NODES-clause-refused
-returns-then-total-gt-MOST_NODES-clause-refused c =
+pub returns-then-total-gt-MOST_NODES-clause-unknown : goal.returns-then-total-gt-MOST_NODES-clause-unknown
+returns-then-total-gt-MOST_NODES-clause-unknown c =
     λ _ small.
-    size_past c.args.order.now c.args.t c.args.listed.now (drop (c.loop-f.f-index + 1) c.args.listed.now) c.loop-f.f-index c.f-item.result c.loop-f.total c.in-Some.part c.requires.listed
+    absurd (size_past c.args.order.now c.args.t c.args.listed.now (drop (c.loop-f.f-index + 1) c.args.listed.now) c.loop-f.f-index c.f-item.result c.loop-f.total c.in-Some.part c.requires.listed
     (drop_item c.args.listed.now c.loop-f.f-index c.f-item.result c.loop-f-test.true c.f-item.is)
-    c.loop-f.invariant.sum c.in-Some.ensures.known c.if-total-gt-MOST_NODES.true small
+    c.loop-f.invariant.sum c.in-Some.ensures.known c.if-total-gt-MOST_NODES.true small)
 
 pub returns-clause-known : goal.returns-clause-known
 returns-clause-known c =

@@ -1,5 +1,5 @@
 use Rattle.std.proofs.Common.{◌≡◌, drop}
-use Rattle.ale_signature.specs.Lists.{every}
+use Rattle.ale_declared.specs.Lists.{every}
 use Rattle.ale_signature.specs.Order.{is_above}
 use Rattle.ale_signature.proofs.tops.is_above_all.Given as goal
 

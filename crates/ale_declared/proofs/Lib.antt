@@ -1,0 +1,5 @@
+pub mod DeclaredLemmas
+pub mod ListLemmas
+pub mod NameLemmas
+pub mod NumberLemmas
+pub mod TopLemmas

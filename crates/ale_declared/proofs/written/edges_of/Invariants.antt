@@ -1,0 +1,7 @@
+use Rattle.std.proofs.Common.{◌≡◌, drop, ◌++◌}
+use Rattle.std.specs.List.{flat_map}
+use Rattle.ale_declared.specs.Declarations.{written_edges}
+use Rattle.ale_declared.proofs.written.edges_of.Given as goal
+
+abbrev pub invariant-loop-decl : goal.invariant-loop-decl
+invariant-loop-decl l = l.edges.items ++ flat_map (written_edges l.types) (drop l.decl-index l.decls) ≡ flat_map (written_edges l.types) l.decls

@@ -1,0 +1,4 @@
+pub mod Declarations
+pub mod Lists
+pub mod Names
+pub mod Numbering

@@ -1,9 +1,0 @@
-use Rattle.std.proofs.Common.{◌≡◌, ℕ, ◌<◌, length}
-use Rattle.ale_signature.specs.Stages.{tabulated, restriction_row, HasRestriction}
-use Rattle.ale_signature.proofs.restrictions.restrictions.Given as goal
-
-abbrev pub invariant-loop-f : goal.invariant-loop-f
-invariant-loop-f l = record {
-  rows : l.rows.items ≡ tabulated (restriction_row l.order) l.f;
-  there : (g t : ℕ) → g < l.f → t < length l.order.types → HasRestriction l.order g t;
-}

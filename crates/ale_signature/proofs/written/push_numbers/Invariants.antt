@@ -1,6 +1,0 @@
-use Rattle.std.proofs.Common.{◌≡◌, drop, map, ◌++◌}
-use Rattle.ale_signature.specs.Names.{number}
-use Rattle.ale_signature.proofs.written.push_numbers.Given as goal
-
-abbrev pub invariant-loop-name : goal.invariant-loop-name
-invariant-loop-name l = l.numbers.items ++ map (number l.types) (drop l.name-index l.names) ≡ l.initial.numbers.items ++ map (number l.types) l.names

@@ -1,8 +1,0 @@
-use Rattle.std.proofs.Common.{◌≡◌, drop, []}
-use Rattle.std.specs.List.{flat_map}
-use Rattle.ale_signature.specs.Names.{numbered}
-use Rattle.ale_signature.specs.Declarations.{sub_names}
-use Rattle.ale_signature.proofs.written.subs_of.Given as goal
-
-abbrev pub invariant-loop-decl : goal.invariant-loop-decl
-invariant-loop-decl l = numbered l.subs (flat_map sub_names (drop l.decl-index l.decls)) ≡ numbered [] (flat_map sub_names l.decls)

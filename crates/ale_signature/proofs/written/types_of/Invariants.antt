@@ -1,8 +1,0 @@
-use Rattle.std.proofs.Common.{◌≡◌, drop}
-use Rattle.std.specs.List.{flat_map}
-use Rattle.ale_signature.specs.Names.{numbered}
-use Rattle.ale_signature.specs.Declarations.{type_names, types_of}
-use Rattle.ale_signature.proofs.written.types_of.Given as goal
-
-abbrev pub invariant-loop-decl : goal.invariant-loop-decl
-invariant-loop-decl l = numbered l.types (flat_map type_names (drop l.decl-index l.decls)) ≡ types_of l.decls
