@@ -2,7 +2,7 @@
 -- map under which the given facts hold goes on, in one way, to a map under which the facts so far hold.
 use Rattle.std.proofs.Common.{◌≡◌, ℕ, ◌≤◌, Bool, true, false, ◌&&◌, eqb, List, [], ◌++◌, refl, sym, ap, ◌∙◌, subst, subst₂, le_refl, append-nil, arith, Option, Some, None, if◌then◌else◌}
 use Rattle.std.proofs.lemmas.Bool.{and_parts, and_from, eqb-true, eq-eqb}
-use Rattle.ale_signature.specs.Lists.{Has}
+use Rattle.ale_declared.specs.Lists.{Has}
 use Rattle.ale_signature.specs.Hierarchy.{Hierarchy}
 use Rattle.ale_graph.specs.declared.fact.Fact.{Fact}
 use Rattle.ale_graph.specs.declared.fact.Fact.TheVariants.{OfType, Value, Same, Differ}

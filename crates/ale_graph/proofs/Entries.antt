@@ -1,7 +1,7 @@
 -- Lists of values by rising features: one more value, and that the values by each feature determine the list.
 use Rattle.std.proofs.Common.{◌≡◌, ℕ, ◌<◌, Bool, true, false, ltb, List, [], ◌∷◌, ◌⊎◌, inl, inr, refl, sym, ap, ◌∙◌, subst, arith, Some, None, if◌then◌else◌}
 use Rattle.std.proofs.lemmas.Bool.{and_parts, and_from, eq-eqb, ne_eqb, ltb-true, lt-ltb}
-use Rattle.ale_signature.specs.Lists.{every}
+use Rattle.ale_declared.specs.Lists.{every}
 use Rattle.ale_graph.specs.Structures.{value_in, is_rising}
 use Rattle.ale_graph.specs.Drafts.{insert_value}
 use Rattle.ale_graph.proofs.Lists.{some_one, none_some, every_has, every_from}

@@ -2,7 +2,7 @@
 use Rattle.std.proofs.Common.{◌≡◌, ◌↔◌, ℕ, ◌<◌, ◌≤◌, Bool, true, false, ◌&&◌, not, eqb, List, [], ◌∷◌, inl, inr, refl, sym, ap, ◌∙◌, subst, Option, Some, None, if◌then◌else◌}
 use Rattle.std.proofs.lemmas.Bool.{eqb-true}
 use Rattle.std.proofs.lemmas.List.{length-map}
-use Rattle.ale_signature.specs.Lists.{Has, upto, every}
+use Rattle.ale_declared.specs.Lists.{Has, upto, every}
 use Rattle.ale_signature.specs.Hierarchy.{Hierarchy, Above, IsLawful}
 use Rattle.ale_graph.specs.declared.fact.Fact.{Fact}
 use Rattle.ale_graph.specs.declared.fact.Fact.TheVariants.{OfType, Value, Same, Differ}
@@ -23,7 +23,7 @@ use Rattle.ale_graph.proofs.Closing.{IsClosing, closing_starts}
 use Rattle.ale_graph.proofs.Filling.{fill_is}
 use Rattle.ale_graph.proofs.Collapsing.{IsCollapsed, collapse_is}
 use Rattle.ale_graph.proofs.Places.{place_one}
-use Rattle.ale_graph.proofs.Graphs.{AllApart, node_in, class_at, value_back, class_fits, node_type, graph_structure, graph_fulfils}
+use Rattle.ale_graph.proofs.Graphs.{AllApart, node_in, class_at, value_back, value_class, class_fits, node_type, graph_structure, graph_fulfils}
 use Rattle.ale_graph.proofs.Universal.{class_is, classes_eq, nodes_eq, node_of_is, universal}
 
 module _ (h : Hierarchy) (given : List Fact) (before : ℕ) (law : IsLawful h) (st : Filled) (k : IsCollapsed h given before st) where
@@ -71,11 +71,11 @@ module _ (h : Hierarchy) (given : List Fact) (before : ℕ) (law : IsLawful h) (
           let d = class_fits h given before law st k apart b lb in
           class_at_is a ∙ place_one st.class st.next (st.class a) (st.class b) c.0 d.0 c.1 d.1 (sym (node_at_is a) ∙ e ∙ node_at_is b) ∙ sym (class_at_is b)
 
-      told : (a f q : ℕ) → a < st.next → value_of (graph_of h st) (node_of (closed_of h st) a) f ≡ Some q → (m : ℕ) × (class_value (class_of (closed_of h st)) st.facts (class_of (closed_of h st) a) f ≡ Some m)
+      told : (a f q : ℕ) → a < st.next → value_of (graph_of h st) (node_of (closed_of h st) a) f ≡ Some q → (m : ℕ) × (class_value (class_of (closed_of h st)) st.facts (class_of (closed_of h st) a) f ≡ Some m) × (node_of (closed_of h st) m ≡ q)
       told a f q lt e =
           let c = class_fits h given before law st k apart a lt in
           let v = value_back h given before law st k apart (st.class a) f q c.0 c.1 (ap (λ z. value_of (graph_of h st) z f) (sym (node_at_is a)) ∙ e) in
-          (v.class, subst (λ (z : ℕ → ℕ). class_value z st.facts (z a) f ≡ Some v.class) (sym (classes_eq h st closing.classes)) v.value)
+          (v.class, subst (λ (z : ℕ → ℕ). class_value z st.facts (z a) f ≡ Some v.class) (sym (classes_eq h st closing.classes)) v.value, node_at_is v.class ∙ ap (place st.class) (value_class h given before law st k apart (st.class a) f v.class v.value).1 ∙ sym v.place_is)
 
       types : (a t : ℕ) → a < st.next → Above h t (type_of (graph_of h st) (node_of (closed_of h st) a)) ↔ MustBe h st.facts a t
       types a t lt =

@@ -12,12 +12,9 @@ pub mod Least
 pub mod Lists
 pub mod Mapped
 pub mod MergeSteps
-pub mod MorphismSteps
 pub mod Passes
 pub mod Places
 pub mod RaiseSteps
-pub mod ReachSteps
-pub mod Reaching
 pub mod ResultSteps
 pub mod Settled
 pub mod Structures

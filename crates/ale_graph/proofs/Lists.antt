@@ -3,7 +3,7 @@ use Rattle.std.proofs.Common.{◌≡◌, ℕ, zero, suc, ◌+◌, ◌<◌, ◌�
 use Rattle.std.proofs.Math.ListN.{get_or-append}
 use Rattle.std.proofs.Math.Seq.{get_or-append_seam}
 use Rattle.std.proofs.lemmas.Bool.{and_parts, and_from}
-use Rattle.ale_signature.specs.Lists.{Has, upto, every, sum_over}
+use Rattle.ale_declared.specs.Lists.{Has, upto, every, sum_over}
 
 pub some_one : {A : Type 0} {a b : A} → Some a ≡ Some b → a ≡ b
 some_one e = cc

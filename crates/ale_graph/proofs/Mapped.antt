@@ -2,7 +2,7 @@
 use Rattle.std.proofs.Common.{◌≡◌, ℕ, ◌+◌, ◌≤◌, ◌<◌, Bool, true, false, ◌&&◌, eqb, ltb, leb, List, [], ◌∷◌, drop, length, get_or, arith, ◌⊎◌, inl, inr, refl, sym, ap, ◌∙◌, option_map}
 use Rattle.std.proofs.lemmas.Bool.{and_parts, and_from, eqb-true, eq-eqb, le-leb, lt-leb}
 use Rattle.std.proofs.lemmas.List.{drop_all, drop_more}
-use Rattle.ale_signature.specs.Lists.{every}
+use Rattle.ale_declared.specs.Lists.{every}
 use Rattle.ale_graph.specs.Structures.{value_in, is_rising}
 use Rattle.ale_graph.specs.Drafts.{mapped, same_lists}
 use Rattle.ale_graph.proofs.Entries.{value_front, value_behind, same_or_not}

@@ -1,6 +1,6 @@
 -- What the first thing found is, and what holds when a loop has settled: its invariant, and nothing found.
 use Rattle.std.proofs.Common.{◌≡◌, ℕ, zero, suc, ◌<◌, ◌≤◌, List, [], ◌∷◌, ◌++◌, inl, inr, refl, ap, ◌∙◌, arith, Option, Some, None}
-use Rattle.ale_signature.specs.Lists.{Has}
+use Rattle.ale_declared.specs.Lists.{Has}
 use Rattle.ale_graph.specs.Settled.{or_else, first_some, first_pair, settle}
 
 pub some_found : {A B : Type 0} (give : A → Option B) (xs : List A) (b : B) → first_some give xs ≡ Some b → (x : A) × Has xs x × (give x ≡ Some b)

@@ -1,7 +1,7 @@
 -- Structures read: values are nodes, and what lies past the last node has none.
 use Rattle.std.proofs.Common.{◌≡◌, ℕ, zero, suc, ◌<◌, ◌≤◌, Bool, true, false, eqb, ltb, IsTrue, List, [], ◌∷◌, ◌⊎◌, inl, inr, refl, sym, ap, ◌∙◌, get_or, length, arith, Some, if◌then◌else◌}
 use Rattle.std.proofs.lemmas.Bool.{and_parts, ltb-true}
-use Rattle.ale_signature.specs.Lists.{Has, every}
+use Rattle.ale_declared.specs.Lists.{Has, every}
 use Rattle.ale_graph.specs.declared.node.Node.{Node}
 use Rattle.ale_graph.specs.Structures.{Structure, count, node_at, value_in, value_of, is_node, is_formed, is_rising}
 use Rattle.ale_graph.proofs.Lists.{some_one, none_some, every_has}

@@ -1,7 +1,7 @@
 -- The values of a node of the closure's graph: the values of its class, in rising feature order.
 use Rattle.std.proofs.Common.{◌≡◌, ℕ, zero, suc, ◌<◌, Bool, true, false, eqb, ltb, List, [], ◌∷◌, ◌++◌, ◌⊎◌, inl, inr, refl, sym, ap, ◌∙◌, subst, Option, Some, None, if◌then◌else◌}
 use Rattle.std.proofs.lemmas.Bool.{eqb-true, eq-eqb, lt-ltb, and_from}
-use Rattle.ale_signature.specs.Lists.{Has, upto, every}
+use Rattle.ale_declared.specs.Lists.{Has, upto, every}
 use Rattle.ale_graph.specs.declared.fact.Fact.{Fact}
 use Rattle.ale_graph.specs.declared.fact.Fact.TheVariants.{OfType, Value, Same, Differ}
 use Rattle.ale_graph.specs.Structures.{value_in, is_rising}

@@ -4,7 +4,7 @@ use Rattle.std.proofs.Math.ListN.{get_or-append}
 use Rattle.std.proofs.Math.Seq.{get_or-append_seam}
 use Rattle.std.proofs.lemmas.List.{length-map, get_or-set_same, get_or-set_other, get_or_past, get_or_default, same_lists}
 use Rattle.std.proofs.lemmas.Bool.{eq-eqb, ne_eqb}
-use Rattle.ale_signature.specs.Lists.{Has, upto}
+use Rattle.ale_declared.specs.Lists.{Has, upto}
 use Rattle.ale_graph.specs.Classes.{merged}
 use Rattle.ale_graph.specs.Types.{set_at}
 use Rattle.ale_graph.specs.Drafts.{class_in, type_in, values_in, renamed}

@@ -1,7 +1,7 @@
 -- The least classes of nodes that obey the facts: nodes told to be the same, and the values by one feature
 -- of the nodes of one class. Source: congruence closure, unification by merging, Carpenter 1992, chapter 3.
 use Rattle.std.specs.Prelude.{ℕ, ◌&&◌, eqb, min, max, Option, Some, None, List, if◌then◌else◌}
-use Rattle.ale_signature.specs.Lists.{upto, sum_over}
+use Rattle.ale_declared.specs.Lists.{upto, sum_over}
 use Rattle.ale_graph.specs.declared.fact.Fact.{Fact}
 use Rattle.ale_graph.specs.declared.fact.Fact.TheVariants.{Value, Same}
 use Rattle.ale_graph.specs.Settled.{first_pair, settle}

@@ -1,7 +1,7 @@
 -- The closure of facts about nodes: least classes and types, then filling, then extensional merging, and
 -- nothing where a join is missing or differing nodes met. Source: Carpenter 1992, chapters 3, 6 and 8.
 use Rattle.std.specs.Prelude.{ℕ, zero, suc, Bool, true, not, eqb, Option, Some, None, List, [], ◌∷◌, ◌++◌, map, length, get_or, if◌then◌else◌}
-use Rattle.ale_signature.specs.Lists.{upto, every}
+use Rattle.ale_declared.specs.Lists.{upto, every}
 use Rattle.ale_signature.specs.Hierarchy.{Hierarchy}
 use Rattle.ale_graph.specs.declared.node.Node.{Node}
 use Rattle.ale_graph.specs.declared.fact.Fact.{Fact}

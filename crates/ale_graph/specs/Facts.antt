@@ -1,7 +1,7 @@
 -- When facts about nodes hold in a structure, under a map from their nodes to nodes of the structure; and
 -- which facts speak of known nodes, types and features. Source: satisfaction, Carpenter 1992, chapter 4.
 use Rattle.std.specs.Prelude.{◌≡◌, ◌≢◌, ℕ, ◌<◌, Some, List}
-use Rattle.ale_signature.specs.Lists.{Has}
+use Rattle.ale_declared.specs.Lists.{Has}
 use Rattle.ale_signature.specs.Hierarchy.{Hierarchy, Above}
 use Rattle.ale_graph.specs.declared.fact.Fact.{Fact}
 use Rattle.ale_graph.specs.declared.fact.Fact.TheVariants.{OfType, Value, Same, Differ}

@@ -1,7 +1,7 @@
 -- Filling: while a class lacks a feature of its type, the least such class gets a new node as its value by
 -- the first missing one, of the restricting type. Source: total well-typedness, Carpenter 1992, chapter 6.
 use Rattle.std.specs.Prelude.{ℕ, suc, ◌&&◌, eqb, Option, Some, None, List, [], ◌∷◌, ◌++◌, if◌then◌else◌}
-use Rattle.ale_signature.specs.Lists.{upto, sum_over}
+use Rattle.ale_declared.specs.Lists.{upto, sum_over}
 use Rattle.ale_signature.specs.Hierarchy.{Hierarchy}
 use Rattle.ale_graph.specs.declared.fact.Fact.{Fact}
 use Rattle.ale_graph.specs.declared.fact.Fact.TheVariants.{OfType, Value, Same, Differ}

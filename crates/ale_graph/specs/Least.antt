@@ -1,7 +1,7 @@
 -- What facts say of their nodes at least: which nodes are in one class, and which types a node must be at
 -- least. Source: unification and type inference of feature structures, Carpenter 1992, chapters 3 and 6.
 use Rattle.std.specs.Prelude.{◌≡◌, ℕ, Some, None, List}
-use Rattle.ale_signature.specs.Lists.{Has}
+use Rattle.ale_declared.specs.Lists.{Has}
 use Rattle.ale_signature.specs.Hierarchy.{Hierarchy, Above}
 use Rattle.ale_graph.specs.declared.fact.Fact.{Fact}
 use Rattle.ale_graph.specs.declared.fact.Fact.TheVariants.{OfType, Value, Same}

@@ -10,13 +10,10 @@ pub mod Joining
 pub mod Keeping
 pub mod Least
 pub mod Morphisms
-pub mod MorphismTest
 pub mod Raising
-pub mod Reaching
 pub mod Results
 pub mod Settled
 pub mod Structures
 pub mod Types
 pub mod Universal
-pub mod Visible
 pub mod Working

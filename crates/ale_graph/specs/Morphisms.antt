@@ -1,7 +1,7 @@
 -- Morphisms between typed feature structures, by which one subsumes another: maps of nodes that keep types,
 -- features, differing pairs and roots. Source: subsumption, Carpenter 1992, chapters 2 and 3.
 use Rattle.std.specs.Prelude.{◌≡◌, ◌≢◌, ℕ, ◌<◌, Some}
-use Rattle.ale_signature.specs.Lists.{Has}
+use Rattle.ale_declared.specs.Lists.{Has}
 use Rattle.ale_signature.specs.Hierarchy.{Hierarchy, Above}
 use Rattle.ale_graph.specs.Structures.{Structure, count, type_of, value_of, root_at}
 

@@ -1,7 +1,7 @@
 -- The least types of classes that obey the facts, or nothing where a join is missing: what nodes are told
 -- to be, what features introduce, and what they restrict. Source: type inference, Carpenter 1992, chapter 6.
 use Rattle.std.specs.Prelude.{ℕ, suc, eqb, Option, Some, None, List, if◌then◌else◌}
-use Rattle.ale_signature.specs.Lists.{upto, sum_over}
+use Rattle.ale_declared.specs.Lists.{upto, sum_over}
 use Rattle.ale_signature.specs.Hierarchy.{Hierarchy}
 use Rattle.ale_graph.specs.declared.fact.Fact.{Fact}
 use Rattle.ale_graph.specs.declared.fact.Fact.TheVariants.{OfType, Value, Same, Differ}

@@ -50,8 +50,8 @@ pub record IsClosure (h : Hierarchy) (given : List Fact) (before : ℕ) (c : Clo
   pub onto : (n : ℕ) → n < count c.graph → (a : ℕ) × (a < c.next) × (class_of c a ≡ a) × (node_of c a ≡ n)
   pub one_node : (a b : ℕ) → a < c.next → b < c.next → node_of c a ≡ node_of c b → class_of c a ≡ class_of c b
   pub types : (a t : ℕ) → a < c.next → Above h t (type_of c.graph (node_of c a)) ↔ MustBe h c.facts a t
-  -- each value in the graph is told by a fact
-  pub told : (a f k : ℕ) → a < c.next → value_of c.graph (node_of c a) f ≡ Some k → (m : ℕ) × (class_value (class_of c) c.facts (class_of c a) f ≡ Some m)
+  -- each value in the graph is the node of one that the facts tell
+  pub told : (a f k : ℕ) → a < c.next → value_of c.graph (node_of c a) f ≡ Some k → (m : ℕ) × (class_value (class_of c) c.facts (class_of c a) f ≡ Some m) × (node_of c m ≡ k)
   -- the graph is total, extensional and kept apart, and the facts hold in it
   pub structure : IsStructure h c.graph
   pub fulfils : Fulfils h c.graph (node_of c) c.facts c.next

@@ -1,5 +1,5 @@
 ghost use Rattle.std.specs.Prelude.{◌≡◌, ◌<◌, IfOk, length, option_map};
-ghost use Rattle.ale_signature.specs.Lists.{upto};
+ghost use Rattle.ale_declared.specs.Lists.{upto};
 ghost use Rattle.ale_signature.specs.Hierarchy.{IsLawful};
 ghost use Rattle.ale_signature.specs.Order.{hierarchy};
 ghost use Rattle.ale_graph.specs.Settled.{first_some};

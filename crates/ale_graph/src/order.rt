@@ -1,7 +1,7 @@
 #![tactic(auto, unfolding(ale_signature::specs::Order::hierarchy))]
 
 ghost use Rattle.std.specs.Prelude.{◌≡◌, ◌<◌, Bool, is_some, filter};
-ghost use Rattle.ale_signature.specs.Lists.{upto};
+ghost use Rattle.ale_declared.specs.Lists.{upto};
 ghost use Rattle.ale_signature.specs.Hierarchy.{IsLawful};
 ghost use Rattle.ale_signature.specs.Order.{hierarchy};
 

@@ -1,5 +1,5 @@
 ghost use Rattle.std.specs.Prelude.{◌≡◌, map, IfOk};
-ghost use Rattle.ale_signature.specs.Lists.{upto};
+ghost use Rattle.ale_declared.specs.Lists.{upto};
 ghost use Rattle.ale_graph.specs.Drafts.{class_in, type_in, renamed};
 ghost use Rattle.ale_graph.specs.Joining.{merge};
 

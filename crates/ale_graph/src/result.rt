@@ -1,5 +1,5 @@
 ghost use Rattle.std.specs.Prelude.{◌≡◌, ◌≤◌, ◌<◌, true, suc, eqb, [], ◌∷◌, ◌++◌, IfOk, IsTrue, List, length, map, get_or, if◌then◌else◌};
-ghost use Rattle.ale_signature.specs.Lists.{upto, every};
+ghost use Rattle.ale_declared.specs.Lists.{upto, every};
 ghost use Rattle.ale_signature.specs.Order.{hierarchy};
 ghost use Rattle.ale_graph.specs.declared.fact.Fact.{Fact as OneFact};
 ghost use Rattle.ale_graph.specs.Structures.{is_formed};

@@ -1,5 +1,5 @@
 use Rattle.std.proofs.Common.{◌≡◌, drop}
-use Rattle.ale_signature.specs.Lists.{every}
+use Rattle.ale_declared.specs.Lists.{every}
 use Rattle.ale_graph.specs.Closure.{is_kept_apart}
 use Rattle.ale_graph.specs.Drafts.{class_in}
 use Rattle.ale_graph.proofs.result.are_kept_apart.Given as goal

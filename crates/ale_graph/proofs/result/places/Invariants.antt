@@ -1,5 +1,5 @@
 use Rattle.std.proofs.Common.{◌≡◌, ◌≤◌, map}
-use Rattle.ale_signature.specs.Lists.{upto}
+use Rattle.ale_declared.specs.Lists.{upto}
 use Rattle.ale_graph.specs.Closure.{place}
 use Rattle.ale_graph.specs.Drafts.{class_in}
 use Rattle.ale_graph.proofs.result.places.Given as goal

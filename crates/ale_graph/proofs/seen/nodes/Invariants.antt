@@ -1,6 +1,0 @@
-use Rattle.std.proofs.Common.{◌≡◌}
-use Rattle.ale_graph.specs.Reaching.{built}
-use Rattle.ale_graph.proofs.seen.nodes.Given as goal
-
-abbrev pub invariant-loop-node : goal.invariant-loop-node
-invariant-loop-node l = l.nodes.items ≡ built l.g l.flags l.numbers l.node
