@@ -1,17 +1,21 @@
 -- Descriptions of nodes, and when one holds at a node of a feature structure.
 -- Source: the description language and its satisfaction, Carpenter 1992, chapter 4.
-use Rattle.std.specs.Prelude.{◌≡◌, ℕ, suc, ◌+◌, ◌<◌, Some, List, [], ◌∷◌}
+use Rattle.std.specs.Prelude.{◌≡◌, ℕ, suc, ◌+◌, ◌<◌, ◌⊎◌, Some, List, [], ◌∷◌, length}
 use Rattle.ale_signature.specs.Hierarchy.{Hierarchy, Above}
 use Rattle.ale_graph.specs.Structures.{Structure, type_of, value_of}
 use Rattle.ale_logic.specs.declared.desc.Desc.{Desc, fold-Desc}
 use Rattle.ale_logic.specs.declared.desc.Desc.TheOpen.{Desc-F}
 
--- as plain data: a type, a feature and what its value is, or several that all hold
+-- as plain data: a type, a variable by its slot, a feature and what its value is, several that all hold,
+-- several of which one holds, or two paths that end at one node
 mutual
   pub data Description : Type 0 where
     of_type : ℕ → Description
+    slot : ℕ → Description
     at : ℕ → Description → Description
     all : Descriptions → Description
+    any : Descriptions → Description
+    meet : List ℕ → List ℕ → Description
 
   pub data Descriptions : Type 0 where
     none : Descriptions
@@ -23,41 +27,86 @@ descriptions_of (d ∷ ds) = more d (descriptions_of ds)
 
 abbrev pub description_step : Desc-F Description → Description
 description_step (Desc-F.OfType t) = of_type t
+description_step (Desc-F.Slot v) = slot v
 description_step (Desc-F.At f d) = at f d
 description_step (Desc-F.All ds) = all (descriptions_of ds)
+description_step (Desc-F.Any ds) = any (descriptions_of ds)
+description_step (Desc-F.Meet p q) = meet p q
 
 -- the plain data of a description of the program
 abbrev pub description : Desc → Description
 description = fold-Desc Description description_step
 
--- the description holds at node n of s
+-- the path of features leads from node n to node m
+abbrev pub LeadsTo : Structure → ℕ → List ℕ → ℕ → Type 0
+LeadsTo s n [] m = n ≡ m
+LeadsTo s n (f ∷ path) m = (k : ℕ) × (value_of s n f ≡ Some k) × LeadsTo s k path m
+
+-- the paths, from a and from b, are there and end at one node
+abbrev pub EndTogether : Structure → ℕ → List ℕ → ℕ → List ℕ → Type 0
+EndTogether s a p b q = (m : ℕ) × LeadsTo s a p m × LeadsTo s b q m
+
+-- the description holds at node n of s, where each variable stands for the node that `assign` gives its slot
 abbrev mutual
-  pub HoldsAt : Hierarchy → Structure → Description → ℕ → Type 0
-  HoldsAt h s (of_type t) n = Above h t (type_of s n)
-  HoldsAt h s (at f d) n = (m : ℕ) × (value_of s n f ≡ Some m) × HoldsAt h s d m
-  HoldsAt h s (all ds) n = AllHoldAt h s ds n
+  pub HoldsAt : Hierarchy → Structure → (ℕ → ℕ) → Description → ℕ → Type 0
+  HoldsAt h s assign (of_type t) n = Above h t (type_of s n)
+  HoldsAt h s assign (slot v) n = assign v ≡ n
+  HoldsAt h s assign (at f d) n = (m : ℕ) × (value_of s n f ≡ Some m) × HoldsAt h s assign d m
+  HoldsAt h s assign (all ds) n = AllHoldAt h s assign ds n
+  HoldsAt h s assign (any ds) n = SomeHoldsAt h s assign ds n
+  HoldsAt h s assign (meet p q) n = EndTogether s n p n q
 
-  pub AllHoldAt : Hierarchy → Structure → Descriptions → ℕ → Type 0
-  AllHoldAt h s none n = Unit {0}
-  AllHoldAt h s (more d ds) n = HoldsAt h s d n × AllHoldAt h s ds n
+  pub AllHoldAt : Hierarchy → Structure → (ℕ → ℕ) → Descriptions → ℕ → Type 0
+  AllHoldAt h s assign none n = Unit {0}
+  AllHoldAt h s assign (more d ds) n = HoldsAt h s assign d n × AllHoldAt h s assign ds n
 
--- its types and features are ones of the signature
+  pub SomeHoldsAt : Hierarchy → Structure → (ℕ → ℕ) → Descriptions → ℕ → Type 0
+  SomeHoldsAt h s assign none n = ⊥
+  SomeHoldsAt h s assign (more d ds) n = HoldsAt h s assign d n ⊎ SomeHoldsAt h s assign ds n
+
+-- the features of a path are ones of the signature
+abbrev pub FitsPath : Hierarchy → List ℕ → Type 0
+FitsPath h [] = Unit {0}
+FitsPath h (f ∷ path) = (f < h.features) × FitsPath h path
+
+-- its types and features are ones of the signature, and its variables have slots among so many
 abbrev mutual
-  pub FitsDescription : Hierarchy → Description → Type 0
-  FitsDescription h (of_type t) = t < h.types
-  FitsDescription h (at f d) = (f < h.features) × FitsDescription h d
-  FitsDescription h (all ds) = FitDescriptions h ds
+  pub FitsDescription : Hierarchy → ℕ → Description → Type 0
+  FitsDescription h slots (of_type t) = t < h.types
+  FitsDescription h slots (slot v) = v < slots
+  FitsDescription h slots (at f d) = (f < h.features) × FitsDescription h slots d
+  FitsDescription h slots (all ds) = FitDescriptions h slots ds
+  FitsDescription h slots (any ds) = FitDescriptions h slots ds
+  FitsDescription h slots (meet p q) = FitsPath h p × FitsPath h q
 
-  pub FitDescriptions : Hierarchy → Descriptions → Type 0
-  FitDescriptions h none = Unit {0}
-  FitDescriptions h (more d ds) = FitsDescription h d × FitDescriptions h ds
+  pub FitDescriptions : Hierarchy → ℕ → Descriptions → Type 0
+  FitDescriptions h slots none = Unit {0}
+  FitDescriptions h slots (more d ds) = FitsDescription h slots d × FitDescriptions h slots ds
 
--- how many parts it has: each type, each feature and each conjunction is one
+-- no disjunction stands in it
+abbrev mutual
+  pub HasNoChoice : Description → Type 0
+  HasNoChoice (of_type t) = Unit {0}
+  HasNoChoice (slot v) = Unit {0}
+  HasNoChoice (at f d) = HasNoChoice d
+  HasNoChoice (all ds) = HaveNoChoice ds
+  HasNoChoice (any ds) = ⊥
+  HasNoChoice (meet p q) = Unit {0}
+
+  pub HaveNoChoice : Descriptions → Type 0
+  HaveNoChoice none = Unit {0}
+  HaveNoChoice (more d ds) = HasNoChoice d × HaveNoChoice ds
+
+-- how many parts it has: each type, variable, feature, conjunction and disjunction is one, and two paths
+-- are one and one more for each of their features
 abbrev mutual
   pub parts : Description → ℕ
   parts (of_type t) = 1
+  parts (slot v) = 1
   parts (at f d) = suc (parts d)
   parts (all ds) = suc (parts_of_all ds)
+  parts (any ds) = suc (parts_of_all ds)
+  parts (meet p q) = suc (length p + length q)
 
   pub parts_of_all : Descriptions → ℕ
   parts_of_all none = 0

@@ -1,9 +1,22 @@
+ghost use Rattle.ale_logic.specs.Searches.{StepLaws, RunLaws};
 ghost use Rattle.ale_logic.specs.Solutions.{SearchLaws};
 
 use ale_graph::closure_law;
 
+/// What visits and searches from any states have to do with the structures that satisfy these states: a
+/// structure satisfies a state exactly where it satisfies a kid, each answer comes from a first state, and
+/// at the end of a search each structure that satisfies a first state is reached by an answer. A search ends
+/// within its budget exactly where nothing waits after as many visits.
+pub fn run_law()
+    ensures steps { StepLaws }
+    ensures runs { RunLaws }
+{
+    closure_law();
+}
+
 /// What every search for a description means: its answers are solutions, a search that ended has all
-/// solutions up to subsumption, and two visits for each part and two more are enough.
+/// solutions up to subsumption, it ends within its budget exactly where nothing waits after as many visits,
+/// and without disjunction two visits for each part and two more are enough.
 pub fn search_law()
     ensures { SearchLaws }
 {

@@ -1,3 +1,4 @@
+pub mod Chosen
 pub mod Progress
 pub mod Turned
 pub mod Visits

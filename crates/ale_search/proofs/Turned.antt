@@ -12,8 +12,8 @@ turned_push view [] x rest = refl
 turned_push view (y ∷ xs) x rest = turned_push view xs x (view y ∷ rest)
 
 -- the description at place k goes before those behind it
-pub pushed_at : (n : ℕ) (ds : List Desc) (k : ℕ) (d : Desc) (item : Item) (items : List Item) (rest : List plain.Item) → k < length ds → d ≡ get_or ds k d → item_of item ≡ plain.holds n (description d) → agenda_of items ≡ items_at n (descriptions_of (map description (drop (k + 1) ds))) rest → agenda_of (items ++ item ∷ []) ≡ items_at n (descriptions_of (map description (drop k ds))) rest
+pub pushed_at : (n : ℕ) (ds : List Desc) (k : ℕ) (d : Desc) (item : Item) (items : List Item) (rest : List plain.Item) → k < length ds → d ≡ get_or ds k d → item_of item ≡ plain.on n (plain.holds (description d)) → agenda_of items ≡ items_at n (descriptions_of (map description (drop (k + 1) ds))) rest → agenda_of (items ++ item ∷ []) ≡ items_at n (descriptions_of (map description (drop k ds))) rest
 pushed_at n ds k d item items rest low at is so =
     let cut : drop k ds ≡ d ∷ drop (k + 1) ds = drop-cons ds k d low ∙ ap (λ x. x ∷ drop (suc k) ds) (sym at) ∙ ap (λ i. d ∷ drop i ds) (sym (add-one k)) in
     let top : agenda_of (items ++ item ∷ []) ≡ item_of item ∷ agenda_of items = turned_push item_of items item [] in
-    top ∙ ap (λ x. x ∷ agenda_of items) is ∙ ap (λ z. plain.holds n (description d) ∷ z) so ∙ ap (λ z. items_at n (descriptions_of (map description z)) rest) (sym cut)
+    top ∙ ap (λ x. x ∷ agenda_of items) is ∙ ap (λ z. plain.on n (plain.holds (description d)) ∷ z) so ∙ ap (λ z. items_at n (descriptions_of (map description z)) rest) (sym cut)

@@ -8,15 +8,15 @@ ghost use Rattle.ale_search.specs.Outcomes.{outcome_of};
 
 use crate::state::{State, start};
 use crate::visiting::{Visited, visit};
-use ale_graph::{Closed, closure_law};
-use ale_logic::Desc;
+use ale_graph::closure_law;
+use ale_logic::{Answer, Desc};
 use ale_signature::{Row, Signature};
 use std::alloc::{AllocError, Global};
 
 /// The answers of a search in order, how many visits it made, and whether no state waits any more.
 #[derive(Debug, Drop)]
 pub struct Found {
-    pub answers: Row<Closed>,
+    pub answers: Row<Answer>,
     pub visits: u64,
     pub finished: bool,
 }
@@ -34,15 +34,22 @@ fn put_before<'a>(
     Ok(())
 }
 
-/// Searches for what satisfies the description, with at most so many visits.
-pub fn find(alloc: Global, sig: &Signature, desc: &Desc, budget: u64) -> Result<Found, AllocError>
-    requires { FitsDescription (hierarchy sig.now) (description desc.now) }
-    ensures { IfOk result (λ f. outcome_of f ≡ search (hierarchy sig.now) budget (start (description desc.now) ∷ [])) }
+/// Searches for what satisfies the description, whose variables have slots below `slots`, with at most so
+/// many visits.
+pub fn find(
+    alloc: Global,
+    sig: &Signature,
+    desc: &Desc,
+    slots: usize,
+    budget: u64,
+) -> Result<Found, AllocError>
+    requires { FitsDescription (hierarchy sig.now) slots (description desc.now) }
+    ensures { IfOk result (λ f. outcome_of f ≡ search (hierarchy sig.now) budget (start slots (description desc.now) ∷ [])) }
 {
     closure_law();
     let _ = sig.type_count();
     let mut waiting = Vec::new(alloc);
-    waiting.push(start(alloc, desc)?)?;
+    waiting.push(start(alloc, desc, slots)?)?;
     let mut answers = Vec::new(alloc);
     let mut visits = 0;
     while visits < budget {
@@ -56,7 +63,7 @@ pub fn find(alloc: Global, sig: &Signature, desc: &Desc, budget: u64) -> Result<
         visits += 1;
         match visit(alloc, sig, state)? {
             Visited::Fails => {}
-            Visited::Answers(closed) => answers.push(closed)?,
+            Visited::Answers(answer) => answers.push(answer)?,
             Visited::Goes(states) => put_before(&mut waiting, states)?,
         }
     }

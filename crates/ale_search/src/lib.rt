@@ -2,8 +2,10 @@
 //! anew at each visit.
 #![tactic(auto)]
 
+mod choosing;
 mod finding;
 mod state;
+mod stepping;
 mod visiting;
 
 pub use finding::{Found, find};

@@ -1,17 +1,19 @@
-ghost use Rattle.std.specs.Prelude.{◌≡◌, ◌<◌, IfOk, slice_index_or, [], ◌∷◌, ◌++◌};
+ghost use Rattle.std.specs.Prelude.{◌≡◌, IfOk, slice_index_or, length, [], ◌∷◌};
 ghost use Rattle.ale_signature.specs.Order.{hierarchy};
 ghost use Rattle.ale_graph.specs.Filling.{class_value};
 ghost use Rattle.ale_graph.specs.Closure.{class_of};
 ghost use Rattle.ale_logic.specs.Visits.{visit, kids};
-ghost use Rattle.ale_logic.specs.States.{IsState, holds, take};
+ghost use Rattle.ale_logic.specs.States.{IsState, holds, on, take};
 ghost use Rattle.ale_logic.specs.Descriptions.{description, FitsDescription};
 ghost use Rattle.ale_signature.specs.Hierarchy.{Hierarchy};
-ghost use Rattle.ale_search.specs.Views.{item_of, agenda_of, state_of, states_of, visited_of, IsKnown};
+ghost use Rattle.ale_search.specs.Views.{demand_of, item_of, agenda_of, state_of, states_of, visited_of, IsKnown, IsKnownDemand};
 
-use crate::state::{Item, State, push_all};
+use crate::choosing::choices;
+use crate::state::{Demand, Item, Rest, State, going, going_with, push_all};
+use crate::stepping::{binding, leading, meeting, stepping};
 use ale_graph::{Closed, Fact, close};
-use ale_logic::Desc;
-use ale_signature::{FeatId, Signature};
+use ale_logic::{Answer, Desc};
+use ale_signature::{FeatId, Row, Signature};
 use std::alloc::{AllocError, Global};
 
 /// What a visit gives.
@@ -20,7 +22,7 @@ pub enum Visited<'a> {
     /// The state has no closure.
     Fails,
     /// Nothing is left to impose.
-    Answers(Closed),
+    Answers(Answer),
     /// The states that come in its place, in order.
     Goes(Vec<State<'a>>),
 }
@@ -53,90 +55,94 @@ fn value_at(closed: &Closed, node: usize, feature: &FeatId) -> Option<usize>
     None
 }
 
-/// The one state that goes on with this agenda.
-fn goes_on<'a>(
-    alloc: Global,
-    closed: Closed,
-    agenda: Vec<Item<'a>>,
-) -> Result<Vec<State<'a>>, AllocError>
-    ensures { IfOk result (λ v. states_of v.items
-        ≡ record { facts = closed.facts; next = closed.next; agenda = agenda_of agenda.entry.items } ∷ []) }
+/// One state alone.
+fn only<'a>(alloc: Global, state: State<'a>) -> Result<Vec<State<'a>>, AllocError>
+    ensures { IfOk result (λ v. states_of v.items ≡ state_of state.entry ∷ []) }
 {
     let mut kids = Vec::new(alloc);
-    kids.push(State {
-        facts: closed.facts.into_vec(),
-        next: closed.next,
-        agenda,
-    })?;
-    Ok(kids)
-}
-
-/// The one state that goes on with one more fact.
-fn goes_with<'a>(
-    alloc: Global,
-    closed: Closed,
-    fact: Fact,
-    agenda: Vec<Item<'a>>,
-) -> Result<Vec<State<'a>>, AllocError>
-    ensures { IfOk result (λ v. states_of v.items
-        ≡ record { facts = closed.facts ++ fact ∷ []; next = closed.next; agenda = agenda_of agenda.entry.items } ∷ []) }
-{
-    let mut facts = closed.facts.into_vec();
-    facts.push(fact)?;
-    let mut kids = Vec::new(alloc);
-    kids.push(State {
-        facts,
-        next: closed.next,
-        agenda,
-    })?;
+    kids.push(state)?;
     Ok(kids)
 }
 
 /// The states that come in place of one whose first item is a description at a node.
-#[tactic(auto, using(ale_logic::proofs::Terms::description_rules, crate::proofs::Turned::turned_push), unfolding(ale_signature::specs::Order::hierarchy))]
+#[tactic(auto, using(ale_logic::proofs::Terms::description_rules), unfolding(ale_signature::specs::Order::hierarchy))]
 fn described<'a>(
     alloc: Global,
     sig: &Signature,
-    closed: Closed,
+    mut rest: Rest<'a>,
     node: usize,
     desc: &'a Desc,
-    mut agenda: Vec<Item<'a>>,
 ) -> Result<Vec<State<'a>>, AllocError>
-    requires { FitsDescription (hierarchy sig.now) (description desc.now) }
-    ensures { IfOk result (λ v. states_of v.items
-        ≡ kids (hierarchy sig.now) closed (holds node (description desc.now)) (agenda_of agenda.entry.items)) }
+    requires { FitsDescription (hierarchy sig.now) (length rest.env.items) (description desc.now) }
+    ensures { IfOk result (λ v. states_of v.items ≡ kids (hierarchy sig.now) rest.entry.closed rest.entry.env.items
+        (on node (holds (description desc.now))) (agenda_of rest.entry.agenda.items)) }
 {
     match desc {
-        Desc::OfType(t) => goes_with(alloc, closed, Fact::OfType(node, *t), agenda),
+        Desc::OfType(t) => {
+            let kid = going_with(rest, Fact::OfType(node, *t))?;
+            only(alloc, kid)
+        }
+        Desc::Slot(slot) => {
+            let kid = binding(rest, *slot as usize, node)?;
+            only(alloc, kid)
+        }
         Desc::At(feature, inner) => {
-            agenda.push(Item::Take(node, feature, inner.get()))?;
-            let least = sig.intro(*feature);
-            goes_with(alloc, closed, Fact::OfType(node, least), agenda)
+            let kid = stepping(sig, rest, node, feature, Demand::Holds(inner.get()))?;
+            only(alloc, kid)
         }
         Desc::All(parts) => {
-            push_all(&mut agenda, node, parts.as_slice())?;
-            goes_on(alloc, closed, agenda)
+            push_all(&mut rest.agenda, node, parts.as_slice())?;
+            only(alloc, going(rest))
+        }
+        Desc::Any(parts) => choices(alloc, rest, node, parts.as_slice()),
+        Desc::Meet(left, right) => {
+            let kid = meeting(sig, rest, node, left.as_slice(), node, right.as_slice())?;
+            only(alloc, kid)
         }
     }
 }
 
-/// The states that come in place of one whose first item is a description at a value.
+/// The states that come in place of one whose first item is a demand of a node.
+fn demanded<'a>(
+    alloc: Global,
+    sig: &Signature,
+    rest: Rest<'a>,
+    node: usize,
+    demand: Demand<'a>,
+) -> Result<Vec<State<'a>>, AllocError>
+    requires { IsKnownDemand (hierarchy sig.now) (length rest.env.items) (demand_of demand) }
+    ensures { IfOk result (λ v. states_of v.items ≡ kids (hierarchy sig.now) rest.entry.closed rest.entry.env.items
+        (on node (demand_of demand.entry)) (agenda_of rest.entry.agenda.items)) }
+{
+    match demand {
+        Demand::Holds(desc) => described(alloc, sig, rest, node, desc),
+        Demand::Meets(path, other, other_path) => {
+            let kid = meeting(sig, rest, node, path, other, other_path)?;
+            only(alloc, kid)
+        }
+        Demand::Leads(path, end) => {
+            let kid = leading(sig, rest, node, path, end)?;
+            only(alloc, kid)
+        }
+    }
+}
+
+/// The states that come in place of one whose first item is a demand of a value.
 #[tactic(auto, using(crate::proofs::Turned::turned_push))]
 fn taken<'a>(
     alloc: Global,
-    closed: Closed,
+    mut rest: Rest<'a>,
     node: usize,
     feature: &FeatId,
-    desc: &'a Desc,
-    mut agenda: Vec<Item<'a>>,
+    demand: Demand<'a>,
 ) -> Result<Vec<State<'a>>, AllocError>
-    ensures { (h : Hierarchy) → IfOk result (λ v. states_of v.items
-        ≡ kids h closed (take node feature.now (description desc.now)) (agenda_of agenda.entry.items)) }
+    ensures { (h : Hierarchy) → IfOk result (λ v. states_of v.items ≡ kids h rest.entry.closed rest.entry.env.items
+        (take node feature.now (demand_of demand.entry)) (agenda_of rest.entry.agenda.items)) }
 {
-    match value_at(&closed, node, feature) {
+    match value_at(&rest.closed, node, feature) {
         Some(value) => {
-            agenda.push(Item::Holds(value, desc))?;
-            goes_on(alloc, closed, agenda)
+            rest.agenda.push(Item::On(value, demand))?;
+            only(alloc, going(rest))
         }
         None => Ok(Vec::new(alloc)),
     }
@@ -146,17 +152,16 @@ fn taken<'a>(
 fn kids_of<'a>(
     alloc: Global,
     sig: &Signature,
-    closed: Closed,
+    rest: Rest<'a>,
     item: Item<'a>,
-    agenda: Vec<Item<'a>>,
 ) -> Result<Vec<State<'a>>, AllocError>
-    requires { IsKnown (hierarchy sig.now) (item_of item) }
-    ensures { IfOk result (λ v. states_of v.items
-        ≡ kids (hierarchy sig.now) closed (item_of item.entry) (agenda_of agenda.entry.items)) }
+    requires { IsKnown (hierarchy sig.now) (length rest.env.items) (item_of item) }
+    ensures { IfOk result (λ v. states_of v.items ≡ kids (hierarchy sig.now) rest.entry.closed rest.entry.env.items
+        (item_of item.entry) (agenda_of rest.entry.agenda.items)) }
 {
     match item {
-        Item::Holds(node, desc) => described(alloc, sig, closed, node, desc, agenda),
-        Item::Take(node, feature, desc) => taken(alloc, closed, node, feature, desc, agenda),
+        Item::On(node, demand) => demanded(alloc, sig, rest, node, demand),
+        Item::Take(node, feature, demand) => taken(alloc, rest, node, feature, demand),
     }
 }
 
@@ -173,13 +178,24 @@ pub fn visit<'a>(
     let State {
         facts,
         next,
+        env,
         mut agenda,
     } = state;
     let Some(closed) = close(alloc, sig, facts.as_slice(), next)? else {
         return Ok(Visited::Fails);
     };
     match agenda.pop() {
-        None => Ok(Visited::Answers(closed)),
-        Some(item) => Ok(Visited::Goes(kids_of(alloc, sig, closed, item, agenda)?)),
+        None => Ok(Visited::Answers(Answer {
+            closed,
+            env: Row::of(env),
+        })),
+        Some(item) => {
+            let rest = Rest {
+                closed,
+                env,
+                agenda,
+            };
+            Ok(Visited::Goes(kids_of(alloc, sig, rest, item)?))
+        }
     }
 }

@@ -1,9 +1,9 @@
 -- The defined output: the relation and the function say the same, and which status stands for which cause.
 use Rattle.std.proofs.Common.{◌≡◌, ◌↔◌, ℕ, ◌<◌, ◌≤◌, Bool, true, false, cond, List, ◌++◌, ◌⊎◌, inl, inr, Option, Some, None, length, refl, sym, ap, ◌∙◌, subst, arith}
-use Rattle.ale_signature.specs.declared.decl.SigDecl.{SigDecl}
-use Rattle.ale_signature.specs.Declarations.{Declared, declared}
+use Rattle.ale_declared.specs.declared.decl.SigDecl.{SigDecl}
+use Rattle.ale_declared.specs.Declarations.{Declared, declared}
 use Rattle.ale_signature.specs.Accepted.{IsAccepted}
-use Rattle.ale_signature.specs.Refusals.{accepts}
+use Rattle.ale_signature.specs.Faults.{accepts}
 use Rattle.ale_source.specs.Terms.{TermData}
 use Rattle.ale_source.specs.Reading.{grammar_of, command_of}
 use Rattle.ale_source.specs.Grammar.{GrammarText, CommandText}

@@ -1,8 +1,8 @@
 -- The answers of a search have types and features of the signature, so that they can be printed.
 use Rattle.std.proofs.Common.{◌≡◌, ℕ, Bool, true, false, eqb, cond, List, [], ◌∷◌, inl, inr, Some, refl, sym, ap}
 use Rattle.std.proofs.lemmas.Bool.{eq-eqb}
-use Rattle.ale_signature.specs.Lists.{Has}
-use Rattle.ale_signature.specs.Declarations.{Declared}
+use Rattle.ale_declared.specs.Lists.{Has}
+use Rattle.ale_declared.specs.Declarations.{Declared}
 use Rattle.ale_signature.specs.Hierarchy.{IsLawful}
 use Rattle.ale_signature.specs.Order.{hierarchy}
 use Rattle.ale_graph.specs.Structures.{Structure, IsStructure, value_in, node_at, type_of}

@@ -3,8 +3,8 @@ use Rattle.std.proofs.Common.{Bool, true, false, cond, subst, arith, ◌≡◌, 
 use Rattle.std.proofs.Math.ListN.{drop_of_length-le}
 use Rattle.std.proofs.lemmas.List.{map-append}
 use Rattle.std.specs.Option.{option_map}
-use Rattle.ale_signature.specs.Declarations.{Declared}
-use Rattle.ale_signature.specs.Names.{named, same_name}
+use Rattle.ale_declared.specs.Declarations.{Declared}
+use Rattle.ale_declared.specs.Names.{named, same_name}
 use Rattle.ale_signature.specs.Order.{hierarchy}
 use Rattle.ale_source.specs.declared.term.Term.{Term}
 use Rattle.ale_source.specs.Terms as term
@@ -102,19 +102,19 @@ both f (Some x) (Some y) z e = (x, y, refl, refl, cc)
 mutual
   unfolding hierarchy
 
-  pub fits : (d : Declared) (t : TermData) (x : Description) → resolved d t ≡ Some x → FitsDescription (hierarchy d) x
+  pub fits : (d : Declared) (t : TermData) (x : Description) → resolved d t ≡ Some x → FitsDescription (hierarchy d) 0 x
   fits d (term.name n) x e =
       let r = mapped of_type (named d.types n) x e in
-      subst (FitsDescription (hierarchy d)) (sym r.2) (named_below d.types n r.0 r.1)
+      subst (FitsDescription (hierarchy d) 0) (sym r.2) (named_below d.types n r.0 r.1)
   fits d (term.at f t) x e =
       let r = both at (named d.features f) (resolved d t) x e in
-      subst (FitsDescription (hierarchy d)) (sym r.4) (named_below d.features f r.0 r.2, fits d t r.1 r.3)
+      subst (FitsDescription (hierarchy d) 0) (sym r.4) (named_below d.features f r.0 r.2, fits d t r.1 r.3)
   fits d (term.all ts) x e =
       let r = mapped all (all_resolved d ts) x e in
-      subst (FitsDescription (hierarchy d)) (sym r.2) (all_fit d ts r.0 r.1)
+      subst (FitsDescription (hierarchy d) 0) (sym r.2) (all_fit d ts r.0 r.1)
 
-  all_fit : (d : Declared) (ts : TermsData) (xs : Descriptions) → all_resolved d ts ≡ Some xs → FitDescriptions (hierarchy d) xs
-  all_fit d term.none xs e = let same : none ≡ xs = cc in subst (FitDescriptions (hierarchy d)) same tt
+  all_fit : (d : Declared) (ts : TermsData) (xs : Descriptions) → all_resolved d ts ≡ Some xs → FitDescriptions (hierarchy d) 0 xs
+  all_fit d term.none xs e = let same : none ≡ xs = cc in subst (FitDescriptions (hierarchy d) 0) same tt
   all_fit d (term.more t ts) xs e =
       let r = both more (resolved d t) (all_resolved d ts) xs e in
-      subst (FitDescriptions (hierarchy d)) (sym r.4) (fits d t r.0 r.2, all_fit d ts r.1 r.3)
+      subst (FitDescriptions (hierarchy d) 0) (sym r.4) (fits d t r.0 r.2, all_fit d ts r.1 r.3)

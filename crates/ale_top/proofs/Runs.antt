@@ -1,9 +1,10 @@
 -- What a run of a job gives, from the defined output and the laws of the layers below.
 use Rattle.std.proofs.Common.{◌≡◌, ◌↔◌, ◌⊎◌, ℕ, List, Option, Some, inl, inr, refl, sym, ap, ◌∙◌, subst}
-use Rattle.ale_signature.specs.Declarations.{Declared, declared}
+use Rattle.ale_declared.specs.Declarations.{Declared, declared}
 use Rattle.ale_signature.specs.Hierarchy.{IsLawful}
 use Rattle.ale_signature.specs.Order.{hierarchy}
-use Rattle.ale_signature.specs.Laws.{SignatureLaw, DeclaredIsNumbered}
+use Rattle.ale_signature.specs.Laws.{SignatureLaw}
+use Rattle.ale_declared.specs.Numbering.{DeclaredIsNumbered}
 use Rattle.ale_logic.specs.Descriptions.{Description}
 use Rattle.ale_logic.specs.Solutions.{SearchLaw, SearchLaws}
 use Rattle.ale_top.specs.declared.status.Status.{Status}
@@ -69,7 +70,7 @@ defined decides g c budget r old new w =
     }
 
 -- what is asked for speaks of a lawful signature
-pub asked_law : SearchLaws → SignatureLaw → DeclaredIsNumbered → (g c : List ℕ) (budget : ℕ) (d : Declared) (desc : Description) → Asks g c d desc → SearchLaw (hierarchy d) desc budget
+pub asked_law : SearchLaws → SignatureLaw → DeclaredIsNumbered → (g c : List ℕ) (budget : ℕ) (d : Declared) (desc : Description) → Asks g c d desc → SearchLaw (hierarchy d) 0 desc budget
 asked_law searches lawful numbered g c budget d desc asks =
     let law : IsLawful (hierarchy (declared asks.declarations)) = lawful (declared asks.declarations) (numbered asks.declarations) asks.grammar.accepted in
-    searches (hierarchy d) desc budget (subst (λ z. IsLawful (hierarchy z)) (sym asks.signature) law) (fits d asks.term desc asks.named)
+    searches (hierarchy d) 0 desc budget (subst (λ z. IsLawful (hierarchy z)) (sym asks.signature) law) (fits d asks.term desc asks.named)

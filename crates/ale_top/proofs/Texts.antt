@@ -1,7 +1,7 @@
 -- How the text of a structure is put together from pieces.
 use Rattle.std.proofs.Common.{Result, Ok, Err, OnOk, inl, inr, ◌≡◌, ℕ, zero, suc, ◌+◌, ◌-◌, ◌<◌, ◌≤◌, List, [], ◌∷◌, ◌++◌, length, get_or, codes, refl, sym, ap, ◌∙◌, arith, append_assoc, append-nil}
-use Rattle.ale_signature.specs.Lists.{Has}
-use Rattle.ale_signature.specs.Declarations.{Declared}
+use Rattle.ale_declared.specs.Lists.{Has}
+use Rattle.ale_declared.specs.Declarations.{Declared}
 use Rattle.ale_graph.specs.declared.node.Node.{Node}
 use Rattle.ale_graph.specs.Structures.{Structure, node_at, type_of}
 use Rattle.ale_top.specs.Texts.{type_text, values_text, structure_text}

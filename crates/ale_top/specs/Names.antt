@@ -1,8 +1,8 @@
 -- The description that a term stands for: its names are looked up among the types and the features.
 use Rattle.std.specs.Prelude.{Option, Some, None}
 use Rattle.std.specs.Option.{option_map}
-use Rattle.ale_signature.specs.Declarations.{Declared}
-use Rattle.ale_signature.specs.Names.{named}
+use Rattle.ale_declared.specs.Declarations.{Declared}
+use Rattle.ale_declared.specs.Names.{named}
 use Rattle.ale_source.specs.Terms as term
 use Rattle.ale_source.specs.Terms.{TermData, TermsData}
 use Rattle.ale_logic.specs.Descriptions.{Description, Descriptions, of_type, at, all, none, more}

@@ -1,10 +1,10 @@
 -- The defined output: what the program ends with and what it writes, for a grammar, commands and a budget.
 use Rattle.std.specs.Prelude.{◌≡◌, ℕ, ◌<◌, ◌≤◌, nat_lt, Bool, true, false, Option, Some, None, List, [], ◌∷◌, ◌++◌, codes, length, if◌then◌else◌}
-use Rattle.ale_signature.specs.declared.decl.SigDecl.{SigDecl}
-use Rattle.ale_signature.specs.Declarations.{Declared, declared}
+use Rattle.ale_declared.specs.declared.decl.SigDecl.{SigDecl}
+use Rattle.ale_declared.specs.Declarations.{Declared, declared}
 use Rattle.ale_signature.specs.Order.{hierarchy}
 use Rattle.ale_signature.specs.Accepted.{IsAccepted}
-use Rattle.ale_signature.specs.Refusals.{accepts}
+use Rattle.ale_signature.specs.Faults.{accepts}
 use Rattle.ale_source.specs.Terms.{TermData}
 use Rattle.ale_source.specs.Reading.{grammar_of, command_of}
 use Rattle.ale_source.specs.Grammar.{GrammarText, CommandText}
@@ -20,9 +20,9 @@ use Rattle.ale_top.specs.Texts.{first_line, command_text}
 abbrev pub file_limit : ℕ
 file_limit = 4194304
 
--- the search for a command's description
+-- the search for a command's description; commands of this stage have no variables
 abbrev pub searched : Declared → ℕ → Description → Outcome
-searched d budget desc = search (hierarchy d) budget (start desc ∷ [])
+searched d budget desc = search (hierarchy d) budget (start 0 desc ∷ [])
 
 abbrev pub grammar_too_long : List ℕ
 grammar_too_long = codes "grammar refused: file 1 TooLong\n"

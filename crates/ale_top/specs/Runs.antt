@@ -4,8 +4,8 @@ use Rattle.std.specs.Prelude.{◌≡◌, ◌≤◌, true, false, length, ℕ, Op
 use Rattle.std.specs.Io.KnownBytes.{Appends}
 use Rattle.ale_top.specs.declared.status.Status.{Status}
 use Rattle.ale_top.specs.declared.status.Status.TheVariants.{Done, Unfinished, Words, Grammar, Commands, ReadFault, WriteFault, NoMemory}
-use Rattle.ale_signature.specs.declared.decl.SigDecl.{SigDecl}
-use Rattle.ale_signature.specs.Declarations.{Declared, declared}
+use Rattle.ale_declared.specs.declared.decl.SigDecl.{SigDecl}
+use Rattle.ale_declared.specs.Declarations.{Declared, declared}
 use Rattle.ale_source.specs.Terms.{TermData}
 use Rattle.ale_source.specs.Grammar.{CommandText}
 use Rattle.ale_logic.specs.Descriptions.{Description}

@@ -2,12 +2,12 @@
 -- by two spaces more; and the lines about a command. Structures of this stage are trees.
 use Rattle.std.specs.Prelude.{ℕ, zero, suc, ◌+◌, ◌<◌, Bool, true, false, List, [], ◌∷◌, ◌++◌, codes, length, encode_utf8_all}
 use Rattle.std.specs.Fmt.{decimal}
-use Rattle.ale_signature.specs.Declarations.{Declared}
-use Rattle.ale_signature.specs.Names.{name_of}
-use Rattle.ale_signature.specs.Lists.{Has}
+use Rattle.ale_declared.specs.Declarations.{Declared}
+use Rattle.ale_declared.specs.Names.{name_of}
+use Rattle.ale_declared.specs.Lists.{Has}
 use Rattle.ale_graph.specs.Structures.{Structure, count, type_of, node_at}
-use Rattle.ale_graph.specs.declared.closed.Closed.{Closed}
 use Rattle.ale_graph.specs.Closure.{node_of}
+use Rattle.ale_logic.specs.declared.answer.Answer.{Answer}
 use Rattle.ale_logic.specs.Visits.{Outcome}
 
 abbrev pub type_text : Declared → ℕ → List ℕ
@@ -33,11 +33,11 @@ structure_text d s zero level n = []
 structure_text d s (suc depth) level n =
     type_text d (type_of s n) ++ codes "\n" ++ values_text d (structure_text d s depth (level + 1)) (level + 1) (node_at s n).values
 
-abbrev pub answer_text : Declared → ℕ → Closed → List ℕ
-answer_text d j c = codes "answer " ++ decimal j ++ codes "\n" ++ structure_text d c.graph (count c.graph) 0 (node_of c 0)
+abbrev pub answer_text : Declared → ℕ → Answer → List ℕ
+answer_text d j c = codes "answer " ++ decimal j ++ codes "\n" ++ structure_text d c.closed.graph (count c.closed.graph) 0 (node_of c.closed 0)
 
 -- the answers, counted from j on
-abbrev pub answers_text : Declared → ℕ → List Closed → List ℕ
+abbrev pub answers_text : Declared → ℕ → List Answer → List ℕ
 answers_text d j [] = []
 answers_text d j (c ∷ cs) = answer_text d j c ++ answers_text d (suc j) cs
 

@@ -2,7 +2,7 @@ ghost use Rattle.std.specs.Prelude.{◌≡◌, IfOk};
 ghost use Rattle.std.specs.Option.{option_map};
 ghost use Rattle.ale_source.specs.Terms.{term_data};
 ghost use Rattle.std.specs.Str.{chars};
-ghost use Rattle.ale_signature.specs.Names.{named};
+ghost use Rattle.ale_declared.specs.Names.{named};
 ghost use Rattle.ale_logic.specs.Descriptions.{description, of_type};
 ghost use Rattle.ale_top.specs.Names.{resolved};
 

@@ -1,5 +1,5 @@
 ghost use Rattle.std.specs.Prelude.{◌≡◌, ◌<◌, ◌+◌, ◌*◌, ◌^◌, ◌++◌, codes, ℕ, OnOk, length, string_bytes};
-ghost use Rattle.ale_signature.specs.Declarations.{Declared};
+ghost use Rattle.ale_declared.specs.Declarations.{Declared};
 ghost use Rattle.ale_graph.specs.Structures.{Structure};
 ghost use Rattle.ale_top.specs.Texts.{structure_text, values_text, indentation, type_text, feature_text, IsPrintable, AreFeatures};
 

@@ -4,7 +4,7 @@ ghost use Rattle.ale_base.specs.Faults.{OnlyWhereRose};
 ghost use Rattle.ale_top.specs.Jobs.{Job, job_of, begins_with_dash, usage};
 ghost use Rattle.ale_top.specs.Named.{job_named};
 ghost use Rattle.ale_signature.specs.Order.{hierarchy};
-ghost use Rattle.ale_logic.specs.Descriptions.{parts};
+ghost use Rattle.ale_logic.specs.Descriptions.{HasNoChoice, parts};
 ghost use Rattle.ale_logic.specs.Solutions.{AnswersAreSolutions, SolutionsAreAnswered};
 ghost use Rattle.ale_top.specs.Output.{Output, outcome};
 ghost use Rattle.ale_top.specs.Reports.{IsInput};
@@ -164,7 +164,7 @@ pub fn run<F: Files, W: Sink>(alloc: Global, words: &[String], files: &mut F, ou
     ensures complete { OfEachSearch (map string_bytes words.now) (F.content files.old) default_budget
         (λ d desc o. o.finished ≡ true → SolutionsAreAnswered (hierarchy d) desc o.answers) }
     ensures enough { OfEachSearch (map string_bytes words.now) (F.content files.old) default_budget
-        (λ d desc o. 2 * parts desc + 2 ≤ default_budget → o.finished ≡ true) }
+        (λ d desc o. HasNoChoice desc → 2 * parts desc + 2 ≤ default_budget → o.finished ≡ true) }
 {
     search_law();
     signature_law();

@@ -1,9 +1,9 @@
 ghost use Rattle.std.specs.Prelude.{◌≡◌, ◌<◌, ◌+◌, ◌++◌, codes, ℕ, OnOk, IfOk, Some, None, List, length, string_bytes, slice_index_or};
 ghost use Rattle.std.specs.Fmt.{decimal};
-ghost use Rattle.ale_signature.specs.Lists.{Has};
+ghost use Rattle.ale_declared.specs.Lists.{Has};
 ghost use Rattle.ale_signature.specs.Order.{hierarchy};
-ghost use Rattle.ale_graph.specs.declared.closed.Closed.{Closed};
 ghost use Rattle.ale_graph.specs.Closure.{place, node_of};
+ghost use Rattle.ale_logic.specs.declared.answer.Answer.{Answer};
 ghost use Rattle.ale_logic.specs.Descriptions.{description, FitsDescription};
 ghost use Rattle.ale_top.specs.Texts.{answer_text, answers_text, ending_text, IsPrintable};
 ghost use Rattle.ale_top.specs.Output.{after_names};
@@ -12,8 +12,7 @@ ghost use Rattle.ale_top.specs.Runs.{IsReported};
 
 use crate::printing::print_node;
 use crate::status::Status;
-use ale_graph::Closed;
-use ale_logic::{Desc, search_law};
+use ale_logic::{Answer, Desc, search_law};
 use ale_search::find;
 use ale_signature::Signature;
 use std::alloc::{AllocError, Global};
@@ -54,12 +53,13 @@ fn push_answer(
     out: &mut String,
     sig: &Signature,
     number: usize,
-    closed: &Closed,
+    answer: &Answer,
 ) -> Result<(), AllocError>
-    requires { IsPrintable sig.now closed.now.graph }
-    ensures { OnOk result (string_bytes out.new ≡ string_bytes out.old ++ answer_text sig.now number closed.now) }
+    requires { IsPrintable sig.now answer.now.closed.graph }
+    ensures { OnOk result (string_bytes out.new ≡ string_bytes out.old ++ answer_text sig.now number answer.now) }
 {
     write!(out, "answer {number}\n")?;
+    let closed = &answer.closed;
     let class = closed.class.as_slice();
     let root = number_of(class, class_at(class, 0));
     print_node(
@@ -73,12 +73,12 @@ fn push_answer(
 }
 
 /// Writes the answers, each with its number.
-fn push_answers(out: &mut String, sig: &Signature, answers: &[Closed]) -> Result<(), AllocError>
-    requires { (c : Closed) → Has answers.now c → IsPrintable sig.now c.graph }
+fn push_answers(out: &mut String, sig: &Signature, answers: &[Answer]) -> Result<(), AllocError>
+    requires { (c : Answer) → Has answers.now c → IsPrintable sig.now c.closed.graph }
     ensures { OnOk result (string_bytes out.new ≡ string_bytes out.old ++ answers_text sig.now 1 answers.now) }
 {
-    for (index, closed) in answers.iter().enumerate() {
-        push_answer(out, sig, index + 1, closed)?;
+    for (index, answer) in answers.iter().enumerate() {
+        push_answer(out, sig, index + 1, answer)?;
     }
     Ok(())
 }
@@ -104,13 +104,13 @@ pub fn answer_to(
     desc: &Desc,
     budget: u64,
 ) -> Result<Report, AllocError>
-    requires { FitsDescription (hierarchy sig.now) (description desc.now) }
+    requires { FitsDescription (hierarchy sig.now) 0 (description desc.now) }
     ensures report { IfOk result (λ r. report_of r ≡ after_names sig.now budget (Some (description desc.now))) }
     ensures kind { IfOk result (λ r. IsReported r.status) }
 {
     search_law();
     let _ = sig.type_count();
-    let found = find(alloc, sig, desc, budget)?;
+    let found = find(alloc, sig, desc, 0, budget)?;
     let answers = found.answers.as_slice();
     let mut text = String::new(alloc);
     text.push_str("ale: inside the fragment\n")?;

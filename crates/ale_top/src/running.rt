@@ -76,10 +76,10 @@ fn after_grammar(
 {
     let sig = match Signature::build(alloc, decls) {
         Ok(sig) => sig,
-        Err(SigError::NotAccepted) => {
+        Err(SigError::NoMemory) => return Err(AllocError),
+        Err(_) => {
             return report(alloc, Status::Grammar, "grammar refused: signature\n");
         }
-        Err(SigError::NoMemory) => return Err(AllocError),
     };
     match commands {
         Input::Whole(bytes) => after_signature(alloc, &sig, bytes.as_slice(), budget),

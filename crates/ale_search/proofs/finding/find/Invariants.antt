@@ -8,7 +8,7 @@ use Rattle.ale_search.proofs.finding.find.Given as goal
 
 abbrev pub invariant-loop-visits : goal.invariant-loop-visits
 invariant-loop-visits l =
-    Searching (hierarchy l.sig) l.budget (start (description l.desc) ∷ []) l.answers.items l.visits (waiting_of l.waiting.items)
+    Searching (hierarchy l.sig) l.budget (start l.slots (description l.desc) ∷ []) l.answers.items l.visits (waiting_of l.waiting.items)
 
 abbrev pub decreases-loop-visits : goal.decreases-loop-visits
 decreases-loop-visits l = l.budget - l.visits

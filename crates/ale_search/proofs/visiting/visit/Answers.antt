@@ -1,4 +1,4 @@
-use Rattle.std.proofs.Common.{◌≡◌, ◌∷◌, [], Some, sym, ap, ◌∙◌}
+use Rattle.std.proofs.Common.{◌≡◌, ◌∷◌, [], Some, length, sym, ap, ◌∙◌}
 use Rattle.ale_signature.specs.Order.{hierarchy}
 use Rattle.ale_graph.specs.Closure.{close}
 use Rattle.ale_search.specs.Views.{item_of, agenda_of, state_of, states_of}
@@ -7,7 +7,7 @@ use Rattle.ale_search.proofs.Visits.{known_last, visit_goes}
 use Rattle.ale_search.proofs.visiting.visit.Goals as goal
 
 pub kids_of-requires : goal.kids_of-requires
-kids_of-requires c = known_last (hierarchy c.args.sig.now) c.args.state.facts.items c.args.state.next c.args.state.agenda.items c.pop.new.self.items c.in-Some-pop.item c.in-Some-pop.ensures.items c.requires.items
+kids_of-requires c = known_last (hierarchy c.args.sig.now) (length c.args.state.env.items) c.args.state.facts.items c.args.state.next c.args.state.agenda.items c.pop.new.self.items c.in-Some-pop.item c.in-Some-pop.ensures.items c.requires.items
 
 pub returns : goal.returns
 returns c =

@@ -1,5 +1,5 @@
 use Rattle.std.proofs.Common.{ap, ◌∙◌, subst}
-use Rattle.ale_signature.specs.Lists.{Has}
+use Rattle.ale_declared.specs.Lists.{Has}
 use Rattle.ale_signature.specs.Order.{hierarchy}
 use Rattle.ale_logic.specs.Descriptions.{description}
 use Rattle.ale_logic.specs.Visits.{Outcome}
@@ -9,6 +9,6 @@ use Rattle.ale_top.proofs.reporting.answer_to.Goals as goal
 pub push_answers-requires : goal.push_answers-requires
 push_answers-requires c = λ answer has.
     let h = hierarchy c.args.sig.now in
-    let law = c.search_law.ensures h (description c.args.desc.now) c.args.budget c.type_count.ensures.lawful c.requires in
+    let law = c.search_law.ensures h 0 (description c.args.desc.now) c.args.budget c.type_count.ensures.lawful c.requires in
     let same = c.as_slice-answers.ensures ∙ ap (λ (o : Outcome). o.answers) c.in_ok-found.ensures in
-    printable c.args.sig.now answer.graph c.type_count.ensures.lawful (law.sound answer (subst (λ z. Has z answer) same has)).structure
+    printable c.args.sig.now answer.closed.graph c.type_count.ensures.lawful (law.sound answer (subst (λ z. Has z answer) same has)).is.structure
