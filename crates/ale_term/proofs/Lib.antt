@@ -1,0 +1,10 @@
+pub mod Balance
+pub mod Fronts
+pub mod Full
+pub mod FullGoals
+pub mod Loops
+pub mod Readings
+pub mod Sound
+pub mod SoundGoals
+pub mod Terms
+pub mod Words

@@ -1,0 +1,8 @@
+use Rattle.std.proofs.Common.{◌≡◌, ◌-◌, length}
+use Rattle.ale_term.specs.declared.symbol.Symbol.TheVariants.{Comma}
+use Rattle.ale_term.specs.Reading.{more_at, atom_at}
+use Rattle.ale_term.proofs.Loops.{with_front}
+use Rattle.ale_term.proofs.list.more_atoms.Given as goal
+
+abbrev pub invariant-loop-read : goal.invariant-loop-read
+invariant-loop-read l = with_front l.found.items (more_at (length l.lexemes - l._read) Comma atom_at l.rest) ≡ more_at (length l.lexemes) Comma atom_at l.lexemes

@@ -1,0 +1,9 @@
+pub mod Behind
+pub mod Follows
+pub mod Results
+pub mod Terms
+pub mod Goals
+pub mod Symbols
+pub mod Lexemes
+pub mod Grammar
+pub mod Reading
