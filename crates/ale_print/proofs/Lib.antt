@@ -1,0 +1,16 @@
+pub mod Answering
+pub mod Appended
+pub mod Kept
+pub mod Linked
+pub mod Locking
+pub mod Lockstep
+pub mod Ordered
+pub mod ReadBack
+pub mod Rising
+pub mod Spelled
+pub mod Stepping
+pub mod Tagged
+pub mod Tallies
+pub mod Telling
+pub mod Underway
+pub mod Walks
