@@ -1,0 +1,5 @@
+pub mod Conjoining
+pub mod Loops
+pub mod Meaning
+pub mod Numbering
+pub mod Spending

@@ -1,0 +1,6 @@
+pub mod Forms
+pub mod Mentions
+pub mod Numbers
+pub mod Resolving
+pub mod Results
+pub mod Variables
