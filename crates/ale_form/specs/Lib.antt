@@ -1,0 +1,5 @@
+pub mod Nesting
+pub mod LeftOut
+pub mod Results
+pub mod Whole
+pub mod Numbers
