@@ -1,0 +1,10 @@
+pub mod Words
+pub mod Wholes
+pub mod TypesForm
+pub mod Distinct
+pub mod ClausesForm
+pub mod LinesForm
+pub mod RulesForm
+pub mod FirstFit
+pub mod Flat
+pub mod Answered

@@ -1,0 +1,5 @@
+pub mod Declarations
+pub mod Forms
+pub mod Directives
+pub mod Answers
+pub mod Reading

@@ -1,0 +1,141 @@
+//! Lines of morphology.
+ghost use Rattle.std.specs.Prelude.{◌≡◌, Some, length, [], ◌∷◌};
+ghost use Rattle.ale_term.specs.declared.symbol.Symbol.TheVariants.{Comma};
+ghost use Rattle.ale_term.specs.Results.{Gives};
+ghost use Rattle.ale_term.specs.Reading.{more_at};
+ghost use Rattle.ale_declaration.specs.Forms.{pieces};
+ghost use Rattle.ale_declaration.specs.Reading.{piece_at, flat_behind, side_at, is_slot, has_slot, is_told, is_bound, line_at};
+
+use crate::declaration::{LinePart, MorphLine};
+use crate::list::{extend, is_same, is_word, some_atoms};
+use ale_term::{Lexeme, ReadError, Symbol, add, atom_at, past, past_word, variable_at};
+use ale_text::{Row, Text};
+use std::alloc::Global;
+
+// The atoms one after the other.
+fn letters(alloc: Global, names: &[Text]) -> Result<Vec<LinePart>, ReadError>
+    ensures { Gives (λ v. v.items) result (Some (pieces names.now)) }
+{
+    let mut found = Vec::new(alloc);
+    for name in names {
+        add(&mut found, LinePart::Piece(name.copy(alloc)?))?;
+    }
+    Ok(found)
+}
+
+// A side of one part.
+fn lone(alloc: Global, part: LinePart) -> Result<Vec<LinePart>, ReadError>
+    ensures { Gives (λ v. v.items) result (Some (part ∷ [])) }
+{
+    let mut found = Vec::new(alloc);
+    add(&mut found, part)?;
+    Ok(found)
+}
+
+// A piece of a side.
+fn piece(alloc: Global, lexemes: &[Lexeme]) -> Result<(Vec<LinePart>, &[Lexeme]), ReadError>
+    ensures { Gives (λ p. (p.0.items, p.1.now)) result (piece_at lexemes.now) }
+{
+    if let Some((name, behind)) = atom_at(lexemes) {
+        return Ok((lone(alloc, LinePart::Piece(name.copy(alloc)?))?, behind));
+    }
+    if let Some((name, behind)) = variable_at(lexemes) {
+        return Ok((lone(alloc, LinePart::Slot(name.copy(alloc)?))?, behind));
+    }
+    let (names, behind) = some_atoms(alloc, lexemes)?;
+    Ok((letters(alloc, names.as_slice())?, behind))
+}
+
+// The parts of the further pieces, each behind a `,`, behind those that were read before.
+fn more_pieces<'a>(
+    alloc: Global,
+    first: Vec<LinePart>,
+    lexemes: &'a [Lexeme],
+) -> Result<(Vec<LinePart>, &'a [Lexeme]), ReadError>
+    ensures { Gives (λ p. (p.0.items, p.1.now)) result (flat_behind first.items (more_at (length lexemes.now) Comma piece_at lexemes.now)) }
+{
+    let mut found = first;
+    let mut rest = lexemes;
+    for _read in 0..lexemes.len() {
+        let Some(behind) = past(rest, Symbol::Comma) else {
+            return Ok((found, rest));
+        };
+        let (parts, after) = piece(alloc, behind)?;
+        extend(&mut found, parts)?;
+        rest = after;
+    }
+    Ok((found, rest))
+}
+
+// A side of a line.
+fn side(alloc: Global, lexemes: &[Lexeme]) -> Result<(Vec<LinePart>, &[Lexeme]), ReadError>
+    ensures { Gives (λ p. (p.0.items, p.1.now)) result (side_at lexemes.now) }
+{
+    let Some(inner) = past(lexemes, Symbol::OpenRound) else {
+        return piece(alloc, lexemes);
+    };
+    let (first, rest) = piece(alloc, inner)?;
+    let (parts, rest) = more_pieces(alloc, first, rest)?;
+    let behind = past(rest, Symbol::CloseRound).ok_or(ReadError::NotTheForm)?;
+    Ok((parts, behind))
+}
+
+// Whether the part is the variable with this name.
+fn is_slot(part: &LinePart, name: &Text) -> bool
+    ensures { result ≡ is_slot part.now name.now }
+{
+    match part {
+        LinePart::Piece(_) => false,
+        LinePart::Slot(other) => is_same(other, name),
+    }
+}
+
+// Whether the variable with this name is among the parts.
+fn has_slot(parts: &[LinePart], name: &Text) -> bool
+    ensures { result ≡ has_slot parts.now name.now }
+{
+    for part in parts {
+        if is_slot(part, name) {
+            return true;
+        }
+    }
+    false
+}
+
+// Whether what the left side matches tells what this part of the right side is.
+#[tactic(auto, using(crate::proofs::Words::word_rules))]
+fn is_told(left: &[LinePart], part: &LinePart) -> bool
+    ensures { result ≡ is_told left.now part.now }
+{
+    match part {
+        LinePart::Piece(_) => true,
+        LinePart::Slot(name) => !is_word(name, "_") && has_slot(left, name),
+    }
+}
+
+// Whether it tells this of each part of the right side.
+fn is_bound(left: &[LinePart], right: &[LinePart]) -> bool
+    ensures { result ≡ is_bound left.now right.now }
+{
+    for part in right {
+        if !is_told(left, part) {
+            return false;
+        }
+    }
+    true
+}
+
+// A line of morphology.
+#[tactic(auto, using(crate::proofs::Words::word_rules))]
+pub(crate) fn line(alloc: Global, lexemes: &[Lexeme]) -> Result<(MorphLine, &[Lexeme]), ReadError>
+    ensures { Gives (λ p. (p.0, p.1.now)) result (line_at lexemes.now) }
+{
+    let (left, behind) = side(alloc, lexemes)?;
+    let inner = past_word(behind, "becomes").ok_or(ReadError::NotTheForm)?;
+    let (right, rest) = side(alloc, inner)?;
+    if !is_bound(&left, &right) {
+        return Err(ReadError::NotTheForm);
+    }
+    let (left, right) = (Row::of(left), Row::of(right));
+    Ok((MorphLine { left, right }, rest))
+}
