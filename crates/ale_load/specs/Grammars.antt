@@ -1,0 +1,139 @@
+-- What the bytes of a grammar file are loaded as.
+use Rattle.std.specs.Prelude.{◌≡◌, ℕ, suc, Bool, true, false, Option, Some, None, Result, Ok, Err, List, [], ◌∷◌, ◌++◌}
+use Rattle.ale_term.specs.declared.lexeme.Lexeme.{Lexeme}
+use Rattle.ale_token.specs.declared.token.TokenError.{TokenError}
+use Rattle.ale_form.specs.declared.error.FormError.{FormError}
+use Rattle.ale_declared.specs.declared.decl.SigDecl.{SigDecl}
+use Rattle.ale_declared.specs.declared.decl.SigDecl.TheVariants.{Kind, Ext}
+use Rattle.ale_declared.specs.Declarations.{Declared, declared}
+use Rattle.ale_signature.specs.declared.fault.Fault.{Fault}
+use Rattle.ale_signature.specs.declared.error.SigError.{SigError}
+use Rattle.ale_signature.specs.Accepted.{IsAccepted}
+use Rattle.ale_signature.specs.Faults.{fault_of}
+use Rattle.ale_signature.specs.Refusals.{IsFault, named_fault}
+use Rattle.ale_declaration.specs.Declarations.{DeclarationData, signature, constraint, macro, clause, word, empty, lex_rule, rule, semantics, lex_depth, chain_length, passed_over}
+use Rattle.ale_declaration.specs.Answers.{DeclarationAnswers}
+use Rattle.ale_declaration.specs.Reading.{declaration_of}
+use Rattle.ale_load.specs.declared.file_error.FileError.{FileError}
+use Rattle.ale_load.specs.declared.file_error.FileError.TheVariants as file
+use Rattle.ale_load.specs.declared.grammar_error.GrammarError.{GrammarError}
+use Rattle.ale_load.specs.declared.grammar_error.GrammarError.TheVariants.{TooLong, NotText, Token, Form, NotBuilt, Signature, NoMemory}
+use Rattle.ale_load.specs.Files.{IsCut, cut_of}
+use Rattle.ale_load.specs.Reading.{Refusal, AreRead, each_read, first_without}
+
+-- types of `sub` and `intro`, and directives that are passed over; the other forms are read and not built
+abbrev pub is_built : DeclarationData → Bool
+is_built (signature (Kind t ts fs)) = true
+is_built (signature (Ext ts)) = false
+is_built (constraint t d g) = false
+is_built (macro m ps d) = false
+is_built (clause p ts g) = false
+is_built (word w d) = false
+is_built (empty d) = false
+is_built (lex_rule n d e g ls) = false
+is_built (rule n d es) = false
+is_built (semantics p) = false
+is_built (lex_depth n) = false
+is_built (chain_length n) = false
+is_built (passed_over n) = true
+
+-- a directive that is passed over: the number of its declaration, and its name
+abbrev pub PassedOver : Type 0
+PassedOver = ℕ × List ℕ
+
+-- what is built of a declaration
+pub data BuiltPart : Type 0 where
+  types : SigDecl → BuiltPart
+  directive : List ℕ → BuiltPart
+  nothing : BuiltPart
+
+abbrev pub built_of : DeclarationData → BuiltPart
+built_of (signature s) = types s
+built_of (passed_over n) = directive n
+built_of (constraint t d g) = nothing
+built_of (macro m ps d) = nothing
+built_of (clause p ts g) = nothing
+built_of (word w d) = nothing
+built_of (empty d) = nothing
+built_of (lex_rule n d e g ls) = nothing
+built_of (rule n d es) = nothing
+built_of (semantics p) = nothing
+built_of (lex_depth n) = nothing
+built_of (chain_length n) = nothing
+
+abbrev pub types_in : BuiltPart → List SigDecl
+types_in (types s) = s ∷ []
+types_in (directive n) = []
+types_in nothing = []
+
+abbrev pub passed_in : ℕ → BuiltPart → List PassedOver
+passed_in k (types s) = []
+passed_in k (directive n) = (k, n) ∷ []
+passed_in k nothing = []
+
+-- the declarations of types, in order
+abbrev pub types_of : List DeclarationData → List SigDecl
+types_of [] = []
+types_of (d ∷ ds) = types_in (built_of d) ++ types_of ds
+
+-- the directives that are passed over, counted among all declarations
+abbrev pub passed_from : ℕ → List DeclarationData → List PassedOver
+passed_from k [] = []
+passed_from k (d ∷ ds) = passed_in k (built_of d) ++ passed_from (suc k) ds
+
+pub record LoadedData : Type 0 where
+  pub signature_of : Declared
+  pub passed : List PassedOver
+
+abbrev pub declared_by : List DeclarationData → Declared
+declared_by ds = declared (types_of ds)
+
+abbrev pub loaded_of : List DeclarationData → LoadedData
+loaded_of ds = record { signature_of = declared_by ds; passed = passed_from 1 ds }
+
+-- what a part of a grammar is read as; the word is not seen through, so that proofs about files never unfold all forms
+unfoldable pub declaration_in : List Lexeme → Result DeclarationData FormError
+declaration_in ls = declaration_of ls
+
+-- why a grammar whose file is not cut is refused
+abbrev pub grammar_fault : FileError → GrammarError
+grammar_fault file.TooLong = TooLong
+grammar_fault (file.NotText p) = NotText p
+grammar_fault (file.Unread e) = Token e
+grammar_fault file.NoMemory = NoMemory
+
+-- The bytes are a grammar, or are refused: for the file; else for the first part that is no declaration; else for the first
+-- declaration that is not built; else for the first fault of the signature.
+pub data IsLoaded (g : List ℕ) : Result LoadedData GrammarError → Type 0 where
+  not_cut : (e : FileError) → IsCut g (Err e) → IsLoaded g (Err (grammar_fault e))
+  not_read : (ps : List (List Lexeme)) (r : Refusal) → IsCut g (Ok ps) → AreRead DeclarationAnswers 1 ps (Err r) → IsLoaded g (Err (Form r.0 r.1))
+  not_built : (ps : List (List Lexeme)) (ds : List DeclarationData) (k : ℕ) → IsCut g (Ok ps) → AreRead DeclarationAnswers 1 ps (Ok ds) →
+      first_without is_built 1 ds ≡ Some k → IsLoaded g (Err (NotBuilt k))
+  not_accepted : (ps : List (List Lexeme)) (ds : List DeclarationData) (f : Fault) → IsCut g (Ok ps) → AreRead DeclarationAnswers 1 ps (Ok ds) →
+      first_without is_built 1 ds ≡ None → IsFault (declared_by ds) f → IsLoaded g (Err (Signature (named_fault (declared_by ds) f)))
+  is_loaded : (ps : List (List Lexeme)) (ds : List DeclarationData) → IsCut g (Ok ps) → AreRead DeclarationAnswers 1 ps (Ok ds) →
+      first_without is_built 1 ds ≡ None → IsAccepted (declared_by ds) → IsLoaded g (Ok (loaded_of ds))
+
+-- the same as a function, stage by stage
+abbrev pub after_signature : List DeclarationData → Option Fault → Result LoadedData GrammarError
+after_signature ds (Some f) = Err (Signature (named_fault (declared_by ds) f))
+after_signature ds None = Ok (loaded_of ds)
+
+abbrev pub after_built : List DeclarationData → Option ℕ → Result LoadedData GrammarError
+after_built ds (Some k) = Err (NotBuilt k)
+after_built ds None = after_signature ds (fault_of (declared_by ds))
+
+abbrev pub formed : Result (List DeclarationData) Refusal → Result (List DeclarationData) GrammarError
+formed (Ok ds) = Ok ds
+formed (Err r) = Err (Form r.0 r.1)
+
+abbrev pub after_forms : Result (List DeclarationData) GrammarError → Result LoadedData GrammarError
+after_forms (Ok ds) = after_built ds (first_without is_built 1 ds)
+after_forms (Err e) = Err e
+
+abbrev pub after_cut : Result (List (List Lexeme)) FileError → Result LoadedData GrammarError
+after_cut (Ok ps) = after_forms (formed (each_read declaration_in 1 ps))
+after_cut (Err e) = Err (grammar_fault e)
+
+abbrev pub load_of : List ℕ → Result LoadedData GrammarError
+load_of g = after_cut (cut_of g)

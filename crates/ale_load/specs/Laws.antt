@@ -1,0 +1,23 @@
+-- Files are read in one way or refused for one cause, which the functions give; what is read is lawful and fits.
+use Rattle.std.specs.Prelude.{◌≡◌, ◌↔◌, ℕ, Result, Ok, List}
+use Rattle.ale_declared.specs.Declarations.{Declared}
+use Rattle.ale_signature.specs.Hierarchy.{IsLawful}
+use Rattle.ale_signature.specs.Order.{hierarchy}
+use Rattle.ale_load.specs.declared.grammar_error.GrammarError.{GrammarError}
+use Rattle.ale_load.specs.declared.command_error.CommandError.{CommandError}
+use Rattle.ale_load.specs.Grammars.{LoadedData, IsLoaded, load_of}
+use Rattle.ale_load.specs.Commands.{Query, AllFit, AreCommands, commands_of}
+
+abbrev pub LoadLaw : Type 0
+LoadLaw = (g : List ℕ) (r : Result LoadedData GrammarError) → IsLoaded g r ↔ load_of g ≡ r
+
+-- an accepted signature obeys the laws of a hierarchy
+abbrev pub LawfulLaw : Type 0
+LawfulLaw = (g : List ℕ) (l : LoadedData) → IsLoaded g (Ok l) → IsLawful (hierarchy l.signature_of)
+
+abbrev pub CommandsLaw : Type 0
+CommandsLaw = (d : Declared) (c : List ℕ) (r : Result (List Query) CommandError) → AreCommands d c r ↔ commands_of d c ≡ r
+
+-- what commands ask for speaks of types, features and variables that are there
+abbrev pub FitLaw : Type 0
+FitLaw = (d : Declared) (c : List ℕ) (qs : List Query) → AreCommands d c (Ok qs) → AllFit (hierarchy d) qs
