@@ -1,0 +1,7 @@
+//! The parts of the output that commands have: the answers of their searches, printed.
+#![tactic(auto)]
+
+mod command;
+mod root;
+
+pub use command::push_command;
