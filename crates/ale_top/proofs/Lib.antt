@@ -1,6 +1,6 @@
 pub mod Endings
+pub mod Joined
 pub mod Limits
-pub mod Printable
-pub mod Resolving
+pub mod Looping
 pub mod Runs
-pub mod Texts
+pub mod Words

@@ -1,19 +1,19 @@
 -- What a run of a job gives, from the defined output and the laws of the layers below.
-use Rattle.std.proofs.Common.{◌≡◌, ◌↔◌, ◌⊎◌, ℕ, List, Option, Some, inl, inr, refl, sym, ap, ◌∙◌, subst}
-use Rattle.ale_declared.specs.Declarations.{Declared, declared}
-use Rattle.ale_signature.specs.Hierarchy.{IsLawful}
+use Rattle.std.proofs.Common.{◌≡◌, ◌↔◌, ◌⊎◌, ℕ, List, [], ◌∷◌, length, Option, Some, inl, inr, refl, sym, ap, ◌∙◌, subst}
+use Rattle.ale_relation.specs.Has.{Has}
+use Rattle.ale_signature.specs.Hierarchy.{Hierarchy}
 use Rattle.ale_signature.specs.Order.{hierarchy}
-use Rattle.ale_signature.specs.Laws.{SignatureLaw}
-use Rattle.ale_declared.specs.Numbering.{DeclaredIsNumbered}
-use Rattle.ale_logic.specs.Descriptions.{Description}
+use Rattle.ale_logic.specs.Descriptions.{FitsDescription}
 use Rattle.ale_logic.specs.Solutions.{SearchLaw, SearchLaws}
+use Rattle.ale_load.specs.Grammars.{LoadedData}
+use Rattle.ale_load.specs.Commands.{Query, AllFit}
+use Rattle.ale_load.specs.Laws.{LoadLaw, LawfulLaw, CommandsLaw, FitLaw}
 use Rattle.ale_top.specs.declared.status.Status.{Status}
 use Rattle.ale_top.specs.declared.status.Status.TheVariants.{Done, Unfinished, Words, Grammar, Commands, ReadFault, WriteFault, NoMemory}
 use Rattle.ale_top.specs.Jobs.{Job, job_of}
 use Rattle.ale_top.specs.Output.{Ending, outcome}
 use Rattle.ale_top.specs.Runs.{Wrote, IsOwed, IsExactly, Told, Asks}
-use Rattle.ale_top.proofs.Endings.{Deciding, HasOutput, given, made, ends, Causes, causes}
-use Rattle.ale_top.proofs.Resolving.{fits}
+use Rattle.ale_top.proofs.Endings.{HasOutput, given, made, ends, Causes, causes}
 
 -- the names that are read are those of the job
 pub told_grammar : (words : List (List ℕ)) (content : List ℕ → Option (List ℕ)) (g c : List ℕ) (job : Job) → Some job ≡ job_of words → Told words content g c → content job.grammar ≡ Some g
@@ -60,17 +60,23 @@ pub record Defined (g c : List ℕ) (budget : ℕ) (r : Status) (old new : Optio
   pub wrote : Wrote (made.status, made.text) r old new
   pub causes : Causes g c budget made.status
 
-pub defined : Deciding → (g c : List ℕ) (budget : ℕ) (r : Status) (old new : Option (List ℕ)) → Wrote (outcome g c budget) r old new → Defined g c budget r old new
-defined decides g c budget r old new w =
-    let m = made decides g c budget in
+pub defined : LoadLaw → CommandsLaw → (g c : List ℕ) (budget : ℕ) (r : Status) (old new : Option (List ℕ)) → Wrote (outcome g c budget) r old new → Defined g c budget r old new
+defined loads reads g c budget r old new w =
+    let m = made loads reads g c budget in
     record {
       made = m;
-      wrote = subst (λ z. Wrote z r old new) (given decides g c budget m.status m.text m.output) w;
-      causes = causes g c budget m.status (ends g c budget m.status m.text m.output);
+      wrote = subst (λ z. Wrote z r old new) (given loads reads g c budget m.status m.text m.output) w;
+      causes = causes g c budget m.status (ends loads reads g c budget m.status m.text m.output);
     }
 
+one_fits : (h : Hierarchy) (qs : List Query) → AllFit h qs → (q : Query) → Has qs q → FitsDescription h (length q.1) q.0
+one_fits h [] fit q has = absurd has
+one_fits h (p ∷ ps) fit q (inl same) = subst (λ (z : Query). FitsDescription h (length z.1) z.0) (sym same) (fit.0)
+one_fits h (p ∷ ps) fit q (inr has) = one_fits h ps (fit.1) q has
+
 -- what is asked for speaks of a lawful signature
-pub asked_law : SearchLaws → SignatureLaw → DeclaredIsNumbered → (g c : List ℕ) (budget : ℕ) (d : Declared) (desc : Description) → Asks g c d desc → SearchLaw (hierarchy d) 0 desc budget
-asked_law searches lawful numbered g c budget d desc asks =
-    let law : IsLawful (hierarchy (declared asks.declarations)) = lawful (declared asks.declarations) (numbered asks.declarations) asks.grammar.accepted in
-    searches (hierarchy d) 0 desc budget (subst (λ z. IsLawful (hierarchy z)) (sym asks.signature) law) (fits d asks.term desc asks.named)
+pub asked_law : SearchLaws → LawfulLaw → FitLaw → (g c : List ℕ) (budget : ℕ) (l : LoadedData) (qs : List Query) → Asks g c l qs → (q : Query) → Has qs q →
+    SearchLaw (hierarchy l.signature_of) (length q.1) q.0 budget
+asked_law searches lawful fit g c budget l qs asks q has =
+    searches (hierarchy l.signature_of) (length q.1) q.0 budget (lawful g l asks.grammar)
+    (one_fits (hierarchy l.signature_of) qs (fit l.signature_of c qs asks.commands) q has)

@@ -1,9 +1,10 @@
 -- What a report of the program stands for.
 use Rattle.std.specs.Prelude.{◌≡◌, ◌<◌, ◌≤◌, List, ℕ, length, string_bytes}
-use Rattle.ale_top.specs.declared.reporting.Report.{Report}
+use Rattle.ale_load.specs.Files.{file_limit}
+use Rattle.ale_top.specs.declared.report.Report.{Report}
 use Rattle.ale_top.specs.declared.running.Input.{Input}
 use Rattle.ale_top.specs.declared.running.Input.TheVariants.{Whole, TooLong}
-use Rattle.ale_top.specs.Output.{Ending, file_limit}
+use Rattle.ale_top.specs.Output.{Ending}
 
 abbrev pub report_of : Report → Ending
 report_of r = (r.status, string_bytes r.text)

@@ -1,18 +1,16 @@
 -- What a call of `run` leaves: the status and text that are owed, unless a call of the files or the sink
 -- failed or memory ran out; then a front of the text, or nothing.
-use Rattle.std.specs.Prelude.{◌≡◌, ◌≤◌, true, false, length, ℕ, Option, Some, None, List, [], ◌⊎◌, take}
+use Rattle.std.specs.Prelude.{◌≡◌, ◌≤◌, true, false, length, ℕ, Option, Some, None, List, [], ◌⊎◌, take, Ok}
 use Rattle.std.specs.Io.KnownBytes.{Appends}
 use Rattle.ale_top.specs.declared.status.Status.{Status}
 use Rattle.ale_top.specs.declared.status.Status.TheVariants.{Done, Unfinished, Words, Grammar, Commands, ReadFault, WriteFault, NoMemory}
-use Rattle.ale_declared.specs.declared.decl.SigDecl.{SigDecl}
-use Rattle.ale_declared.specs.Declarations.{Declared, declared}
-use Rattle.ale_source.specs.Terms.{TermData}
-use Rattle.ale_source.specs.Grammar.{CommandText}
-use Rattle.ale_logic.specs.Descriptions.{Description}
+use Rattle.ale_relation.specs.Has.{Has}
+use Rattle.ale_declared.specs.Declarations.{Declared}
 use Rattle.ale_logic.specs.Visits.{Outcome}
+use Rattle.ale_load.specs.Grammars.{LoadedData, IsLoaded}
+use Rattle.ale_load.specs.Commands.{Query, AreCommands}
 use Rattle.ale_top.specs.Jobs.{Job, job_of}
-use Rattle.ale_top.specs.Names.{resolved}
-use Rattle.ale_top.specs.Output.{Ending, IsGrammar, file_limit, searched}
+use Rattle.ale_top.specs.Output.{Ending, search_for}
 
 -- some front of the text was appended
 abbrev pub AppendsFront : Option (List ℕ) → Option (List ℕ) → List ℕ → Type 0
@@ -71,37 +69,33 @@ pub record Told (words : List (List ℕ)) (content : List ℕ → Option (List �
   pub grammar : content job.grammar ≡ Some g
   pub commands : content job.commands ≡ Some c
 
--- the grammar's text stands for an accepted signature, of some declarations
+-- the grammar is accepted
 abbrev pub IsAcceptedGrammar : List ℕ → Type 0
-IsAcceptedGrammar g = (ds : List SigDecl) × IsGrammar g ds
+IsAcceptedGrammar g = (l : LoadedData) × IsLoaded g (Ok l)
 
--- The texts ask for a search: the grammar is accepted, and the command describes a node.
-pub record Asks (g c : List ℕ) (d : Declared) (desc : Description) : Type 0 where
-  pub declarations : List SigDecl
-  pub signature : d ≡ declared declarations
-  pub grammar : IsGrammar g declarations
-  pub short : length c ≤ file_limit
-  pub term : TermData
-  pub command : CommandText c (Some term)
-  pub named : resolved d term ≡ Some desc
+-- The texts ask for searches: the grammar is accepted, and the commands describe these nodes.
+pub record Asks (g c : List ℕ) (l : LoadedData) (qs : List Query) : Type 0 where
+  pub grammar : IsLoaded g (Ok l)
+  pub commands : AreCommands l.signature_of c (Ok qs)
 
--- the commands are none, or ask for a search
-abbrev pub AreCommands : List ℕ → List ℕ → Type 0
-AreCommands g c =
-    ((length c ≤ file_limit) × CommandText c None) ⊎ ((d : Declared) × ((desc : Description) × Asks g c d desc))
+-- the commands are accepted for the grammar
+abbrev pub AreAccepted : List ℕ → List ℕ → Type 0
+AreAccepted g c = (l : LoadedData) × (qs : List Query) × Asks g c l qs
 
 -- what holds of each search that the told texts ask for
-abbrev pub OfEachSearch : List (List ℕ) → (List ℕ → Option (List ℕ)) → ℕ → (Declared → Description → Outcome → Type 0) → Type 0
+abbrev pub OfEachSearch : List (List ℕ) → (List ℕ → Option (List ℕ)) → ℕ → (Declared → Query → Outcome → Type 0) → Type 0
 OfEachSearch words content budget P =
-    (g c : List ℕ) → Told words content g c → (d : Declared) (desc : Description) → Asks g c d desc → P d desc (searched d budget desc)
+    (g c : List ℕ) → Told words content g c → (l : LoadedData) (qs : List Query) → Asks g c l qs →
+    (q : Query) → Has qs q → P l.signature_of q (search_for l.signature_of budget q)
 
--- Nothing is unfinished: there is no command, or the search ends within the budget.
+-- every search that is asked for ends within the budget
 abbrev pub Finishes : List ℕ → List ℕ → ℕ → Type 0
 Finishes g c budget =
-    (IsAcceptedGrammar g × (length c ≤ file_limit) × CommandText c None)
-    ⊎ ((d : Declared) × ((desc : Description) × (Asks g c d desc × ((searched d budget desc).finished ≡ true))))
+    (l : LoadedData) × (qs : List Query) × Asks g c l qs
+    × ((q : Query) → Has qs q → (search_for l.signature_of budget q).finished ≡ true)
 
--- The search that is asked for needs more visits than the budget.
+-- some search that is asked for needs more visits than the budget
 abbrev pub Unfinishes : List ℕ → List ℕ → ℕ → Type 0
 Unfinishes g c budget =
-    (d : Declared) × ((desc : Description) × (Asks g c d desc × ((searched d budget desc).finished ≡ false)))
+    (l : LoadedData) × (qs : List Query) × Asks g c l qs
+    × ((q : Query) × Has qs q × ((search_for l.signature_of budget q).finished ≡ false))

@@ -1,10 +1,9 @@
 //! The whole program over files and a sink: reading, searching and writing.
 #![tactic(auto)]
 
-mod naming;
-mod printing;
+mod lines;
 mod program;
-mod reporting;
+mod report;
 mod running;
 mod status;
 

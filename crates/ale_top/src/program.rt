@@ -1,20 +1,22 @@
-ghost use Rattle.std.specs.Prelude.{◌≡◌, ◌≢◌, ◌↔◌, ◌⊎◌, ◌+◌, ◌*◌, ◌≤◌, true, ℕ, List, Some, None, IfSome, IfOk, IfErr, IsErrOf, map, not, string_bytes};
+ghost use Rattle.std.specs.Prelude.{◌≡◌, ◌≢◌, ◌↔◌, ◌⊎◌, ◌+◌, ◌*◌, ◌≤◌, true, ℕ, List, [], ◌∷◌, length, Some, None, IfSome, IfOk, IfErr, IsErrOf, map, not, string_bytes};
 ghost use Rattle.std.specs.Option.{option_map};
 ghost use Rattle.ale_base.specs.Faults.{OnlyWhereRose};
 ghost use Rattle.ale_top.specs.Jobs.{Job, job_of, begins_with_dash, usage};
 ghost use Rattle.ale_top.specs.Named.{job_named};
 ghost use Rattle.ale_signature.specs.Order.{hierarchy};
 ghost use Rattle.ale_logic.specs.Descriptions.{HasNoChoice, parts};
+ghost use Rattle.ale_logic.specs.Searches.{BudgetLaw};
+ghost use Rattle.ale_logic.specs.States.{start};
 ghost use Rattle.ale_logic.specs.Solutions.{AnswersAreSolutions, SolutionsAreAnswered};
 ghost use Rattle.ale_top.specs.Output.{Output, outcome};
 ghost use Rattle.ale_top.specs.Reports.{IsInput};
-ghost use Rattle.ale_top.specs.Runs.{Wrote, IsEarly, IsOwed, IsExactly, IsAcceptedGrammar, AreCommands, Finishes, Unfinishes, Told, OfEachSearch, default_budget};
+ghost use Rattle.ale_top.specs.Runs.{Wrote, IsEarly, IsOwed, IsExactly, IsAcceptedGrammar, AreAccepted, Finishes, Unfinishes, Told, OfEachSearch, default_budget};
 
 use crate::running::{Input, report_on};
 use crate::status::Status;
 use ale_base::{Files, ReadError, Sink, read_all, write_all};
+use ale_load::{commands_law, load_law};
 use ale_logic::search_law;
-use ale_signature::{acceptance_law, signature_law};
 use std::alloc::Global;
 
 /// The most bytes that a file may have.
@@ -150,7 +152,7 @@ pub fn run<F: Files, W: Sink>(alloc: Global, words: &[String], files: &mut F, ou
     ensures grammar { (g c : List ℕ) → Told (map string_bytes words.now) (F.content files.old) g c
         → IsExactly result Status.Grammar (IsAcceptedGrammar g → ⊥) }
     ensures commands { (g c : List ℕ) → Told (map string_bytes words.now) (F.content files.old) g c
-        → IsExactly result Status.Commands (IsAcceptedGrammar g × (AreCommands g c → ⊥)) }
+        → IsExactly result Status.Commands (IsAcceptedGrammar g × (AreAccepted g c → ⊥)) }
     ensures done { (g c : List ℕ) → Told (map string_bytes words.now) (F.content files.old) g c
         → IsExactly result Status.Done (Finishes g c default_budget) }
     ensures unfinished { (g c : List ℕ) → Told (map string_bytes words.now) (F.content files.old) g c
@@ -160,15 +162,17 @@ pub fn run<F: Files, W: Sink>(alloc: Global, words: &[String], files: &mut F, ou
 
     // What the answers mean.
     ensures sound { OfEachSearch (map string_bytes words.now) (F.content files.old) default_budget
-        (λ d desc o. AnswersAreSolutions (hierarchy d) desc o.answers) }
+        (λ d q o. AnswersAreSolutions (hierarchy d) q.0 o.answers) }
     ensures complete { OfEachSearch (map string_bytes words.now) (F.content files.old) default_budget
-        (λ d desc o. o.finished ≡ true → SolutionsAreAnswered (hierarchy d) desc o.answers) }
+        (λ d q o. o.finished ≡ true → SolutionsAreAnswered (hierarchy d) q.0 o.answers) }
     ensures enough { OfEachSearch (map string_bytes words.now) (F.content files.old) default_budget
-        (λ d desc o. HasNoChoice desc → 2 * parts desc + 2 ≤ default_budget → o.finished ≡ true) }
+        (λ d q o. HasNoChoice q.0 → 2 * parts q.0 + 2 ≤ default_budget → o.finished ≡ true) }
+    ensures budgeted { OfEachSearch (map string_bytes words.now) (F.content files.old) default_budget
+        (λ d q o. BudgetLaw (hierarchy d) default_budget (start (length q.1) q.0 ∷ [])) }
 {
     search_law();
-    signature_law();
-    acceptance_law();
+    load_law();
+    commands_law();
     match names_of(words) {
         None => write_text(out, Status::Words, USAGE.as_bytes()),
         Some(names) => run_job(alloc, &names, files, out, default_budget()),

@@ -1,14 +1,24 @@
-ghost use Rattle.std.specs.Prelude.{◌≡◌, ℕ, List, IfOk, Some};
-ghost use Rattle.ale_source.specs.Reading.{command_of};
-ghost use Rattle.ale_top.specs.Output.{outcome, after_grammar, after_signature, after_commands};
+//! The report on a grammar and its commands.
+ghost use Rattle.std.specs.Prelude.{◌≡◌, ◌≢◌, ◌++◌, ℕ, List, Ok, Err, IfOk, OnOk, map, string_bytes};
+ghost use Rattle.ale_signature.specs.Order.{hierarchy};
+ghost use Rattle.ale_load.specs.declared.grammar_error.GrammarError.TheVariants as grammar;
+ghost use Rattle.ale_load.specs.declared.command_error.CommandError.TheVariants as command;
+ghost use Rattle.ale_load.specs.Grammars.{load_of};
+ghost use Rattle.ale_load.specs.Commands.{AllFit, commands_of};
+ghost use Rattle.ale_load.specs.Views.{loaded_data, query_data};
+ghost use Rattle.ale_load.specs.Results.{LoadGives, CommandsGive};
+ghost use Rattle.ale_top.specs.Lines.{grammar_line, command_line};
+ghost use Rattle.ale_top.specs.Output.{outcome, after_grammar, after_commands, commands_text, all_finished};
 ghost use Rattle.ale_top.specs.Reports.{report_of, IsInput};
 ghost use Rattle.ale_top.specs.Runs.{IsReported};
 
-use crate::naming::description_of;
-use crate::reporting::{Report, answer_to};
+use crate::lines::{push_all_passed, push_command_line, push_grammar_line};
+use crate::report::Report;
 use crate::status::Status;
-use ale_signature::{SigDecl, SigError, Signature};
-use ale_source::{ReadError, read_command, read_grammar};
+use ale_load::{CommandError, GrammarError, Loaded, load, read_commands};
+use ale_report::push_command;
+use ale_resolve::Described;
+use ale_signature::Signature;
 use std::alloc::{AllocError, Global};
 
 /// What was read of a file.
@@ -20,75 +30,120 @@ pub enum Input {
     TooLong,
 }
 
-/// The report of one line.
-fn report(alloc: Global, status: Status, line: &str) -> Result<Report, AllocError>
-    ensures report { IfOk result (λ r. report_of r ≡ (status, line.now)) }
-    ensures kind { IfOk result (λ r. r.status ≡ status) }
+// The report on a grammar that is refused.
+fn grammar_refused(alloc: Global, error: &GrammarError) -> Result<Report, AllocError>
+    ensures report { IfOk result (λ r. report_of r ≡ (Status.Grammar, grammar_line error.now)) }
+    ensures status { IfOk result (λ r. r.status ≡ Status.Grammar) }
 {
+    let mut text = String::new(alloc);
+    push_grammar_line(alloc, &mut text, error)?;
     Ok(Report {
-        status,
-        text: String::from_str(alloc, line)?,
+        status: Status::Grammar,
+        text,
     })
 }
 
-/// What commands make of an accepted grammar.
-fn after_signature(
+// The report on commands that are refused.
+fn commands_refused(alloc: Global, error: &CommandError) -> Result<Report, AllocError>
+    ensures report { IfOk result (λ r. report_of r ≡ (Status.Commands, command_line error.now)) }
+    ensures status { IfOk result (λ r. r.status ≡ Status.Commands) }
+{
+    let mut text = String::new(alloc);
+    push_command_line(alloc, &mut text, error)?;
+    Ok(Report {
+        status: Status::Commands,
+        text,
+    })
+}
+
+// Writes the part of each command; tells whether every search ended within the budget.
+fn push_commands(
     alloc: Global,
+    out: &mut String,
     sig: &Signature,
-    commands: &[u8],
+    queries: &[Described],
+    budget: u64,
+) -> Result<bool, AllocError>
+    requires { AllFit (hierarchy sig.now) (map query_data queries.now) }
+    ensures text { OnOk result (string_bytes out.new ≡ string_bytes out.old ++ commands_text sig.now budget 1 (map query_data queries.now)) }
+    ensures finished { IfOk result (λ b. b ≡ all_finished sig.now budget (map query_data queries.now)) }
+{
+    let mut finished = true;
+    for (index, query) in queries.iter().enumerate() {
+        let slots = query.names.as_slice().len();
+        let ended = push_command(alloc, out, sig, index + 1, &query.desc, slots, budget)?;
+        finished = finished && ended;
+    }
+    Ok(finished)
+}
+
+// The report on accepted commands.
+fn answered(
+    alloc: Global,
+    loaded: &Loaded,
+    queries: &[Described],
     budget: u64,
 ) -> Result<Report, AllocError>
-    ensures report { IfOk result (λ r. report_of r ≡ after_commands sig.now budget (command_of commands.now)) }
+    requires { AllFit (hierarchy loaded.now.signature) (map query_data queries.now) }
+    ensures report { IfOk result (λ r. report_of r ≡ after_commands (loaded_data loaded.now) budget (Ok (map query_data queries.now))) }
     ensures kind { IfOk result (λ r. IsReported r.status) }
 {
-    let term = match read_command(alloc, commands) {
-        Ok(Some(term)) => term,
-        Ok(None) => return report(alloc, Status::Done, "ale: inside the fragment\n"),
-        Err(ReadError::NotTheForm) => {
-            return report(
-                alloc,
-                Status::Commands,
-                "commands refused: 9 NotBuilt command 0\n",
-            );
-        }
-        Err(ReadError::NoMemory) => return Err(AllocError),
+    let mut text = String::new(alloc);
+    text.push_str("ale: inside the fragment\n")?;
+    push_all_passed(alloc, &mut text, loaded.passed.as_slice())?;
+    let finished = push_commands(alloc, &mut text, &loaded.signature, queries, budget)?;
+    let status = if finished {
+        Status::Done
+    } else {
+        Status::Unfinished
     };
-    match description_of(alloc, sig, &term)? {
-        Some(desc) => answer_to(alloc, sig, &desc, budget),
-        None => report(
-            alloc,
-            Status::Commands,
-            "commands refused: 9 NotBuilt command 0\n",
-        ),
+    Ok(Report { status, text })
+}
+
+// The grammar of what was read.
+fn load_input(alloc: Global, grammar: &Input) -> Result<Loaded, GrammarError>
+    ensures { (g : List ℕ) → IsInput grammar.now g → LoadGives loaded_data result (load_of g) }
+{
+    match grammar {
+        Input::Whole(bytes) => load(alloc, bytes.as_slice()),
+        Input::TooLong => Err(GrammarError::TooLong),
     }
 }
 
-/// What accepted or refused declarations and the command file give.
-#[tactic(auto, using(crate::proofs::Limits::limit_rules))]
-fn after_grammar(
+// The commands of what was read.
+fn read_input(
     alloc: Global,
-    decls: &[SigDecl],
+    commands: &Input,
+    sig: &Signature,
+) -> Result<Vec<Described>, CommandError>
+    ensures exact { (c : List ℕ) → IsInput commands.now c → CommandsGive (λ v. map query_data v.items) result (commands_of sig.now c) }
+    ensures fit { IfOk result (λ v. AllFit (hierarchy sig.now) (map query_data v.items)) }
+{
+    match commands {
+        Input::Whole(bytes) => read_commands(alloc, bytes.as_slice(), sig),
+        Input::TooLong => Err(CommandError::TooLong),
+    }
+}
+
+// The report on commands for an accepted grammar.
+fn report_commands(
+    alloc: Global,
+    loaded: &Loaded,
     commands: &Input,
     budget: u64,
 ) -> Result<Report, AllocError>
-    ensures report { (c : List ℕ) → IsInput commands.now c → IfOk result (λ r. report_of r ≡ after_grammar c budget (Some decls.now)) }
+    ensures report { (c : List ℕ) → IsInput commands.now c
+        → IfOk result (λ r. report_of r ≡ after_commands (loaded_data loaded.now) budget (commands_of loaded.now.signature c)) }
     ensures kind { IfOk result (λ r. IsReported r.status) }
 {
-    let sig = match Signature::build(alloc, decls) {
-        Ok(sig) => sig,
-        Err(SigError::NoMemory) => return Err(AllocError),
-        Err(_) => {
-            return report(alloc, Status::Grammar, "grammar refused: signature\n");
-        }
-    };
-    match commands {
-        Input::Whole(bytes) => after_signature(alloc, &sig, bytes.as_slice(), budget),
-        Input::TooLong => report(alloc, Status::Commands, "commands refused: 1 TooLong\n"),
+    match read_input(alloc, commands, &loaded.signature) {
+        Ok(queries) => answered(alloc, loaded, queries.as_slice(), budget),
+        Err(CommandError::NoMemory) => Err(AllocError),
+        Err(error) => commands_refused(alloc, &error),
     }
 }
 
 /// The report on a grammar file and a command file.
-#[tactic(auto, using(crate::proofs::Limits::limit_rules))]
 pub fn report_on(
     alloc: Global,
     grammar: &Input,
@@ -98,23 +153,9 @@ pub fn report_on(
     ensures report { (g c : List ℕ) → IsInput grammar.now g → IsInput commands.now c → IfOk result (λ r. report_of r ≡ outcome g c budget) }
     ensures kind { IfOk result (λ r. IsReported r.status) }
 {
-    let bytes = match grammar {
-        Input::Whole(bytes) => bytes,
-        Input::TooLong => return report(
-            alloc,
-            Status::Grammar,
-            "grammar refused: file 1 TooLong\n",
-        ),
-    };
-    match read_grammar(alloc, bytes.as_slice()) {
-        Ok(decls) => after_grammar(alloc, decls.as_slice(), commands, budget),
-        Err(ReadError::NotTheForm) => {
-            report(
-                alloc,
-                Status::Grammar,
-                "grammar refused: stage 1 NotBuilt declaration 0\n",
-            )
-        }
-        Err(ReadError::NoMemory) => Err(AllocError),
+    match load_input(alloc, grammar) {
+        Ok(loaded) => report_commands(alloc, &loaded, commands, budget),
+        Err(GrammarError::NoMemory) => Err(AllocError),
+        Err(error) => grammar_refused(alloc, &error),
     }
 }

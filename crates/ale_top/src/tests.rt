@@ -1,7 +1,7 @@
 ghost use Rattle.std.specs.Prelude.{◌≤◌};
 
 use crate::program::run;
-use crate::reporting::Report;
+use crate::report::Report;
 use crate::running::{Input, report_on};
 use crate::status::Status;
 use ale_base::{MemoryFiles, MemorySink};
@@ -70,64 +70,161 @@ fn ran_words(alloc: Global, words: &[String]) -> Result<Ran, AllocError> {
     Ok(Ran { status, sink })
 }
 
+/// Whether a run over these texts ends so and writes this, behind the first line where it answers.
+fn gives(
+    alloc: Global,
+    grammar: &str,
+    commands: &str,
+    status: Status,
+    text: &str,
+) -> Result<bool, AllocError> {
+    let ran = ran_well(alloc, grammar, commands)?;
+    Ok(ran.status == status && ran.sink.bytes() == text.as_bytes())
+}
+
 #[test]
-fn worked_examples(rt: HostRuntime) -> Result<(), AllocError> {
-    for (grammar, commands, status, text) in [
-        (LIST, "mgsat ne_list.", Status::Done, LIST_NODE),
-        ("", "", Status::Done, "ale: inside the fragment\n"),
+fn searches(rt: HostRuntime) -> Result<(), AllocError> {
+    for (grammar, commands, text) in [
+        (LIST, "mgsat ne_list.", LIST_NODE),
+        ("", "", "ale: inside the fragment\n"),
         (
             "a sub []. b sub [].",
             "mgsat (a,b).",
-            Status::Done,
             "ale: inside the fragment\ncommand 1: mgsat\nanswers 0, visits 4, complete\n",
         ),
         (
             LISTS_OF_A,
             "mgsat hd:a.",
-            Status::Done,
             "ale: inside the fragment\ncommand 1: mgsat\nanswer 1\nne_list\n  hd: a\n  tl: list\nanswers 1, visits 4, complete\n",
         ),
         (
-            "a sub []. 'B' sub [].",
-            "",
-            Status::Grammar,
-            "grammar refused: stage 1 NotBuilt declaration 0\n",
+            "a sub []. b sub [].",
+            "mgsat (a;b).",
+            "ale: inside the fragment\ncommand 1: mgsat\nanswer 1\na\nanswer 2\nb\nanswers 2, visits 5, complete\n",
         ),
         (
-            "a sub [c,d]. b sub [c,d].",
-            "",
-            Status::Grammar,
-            "grammar refused: signature\n",
+            LISTS_OF_A,
+            "mgsat (hd:a, (e_list;ne_list)).",
+            "ale: inside the fragment\ncommand 1: mgsat\nanswer 1\nne_list\n  hd: a\n  tl: list\nanswers 1, visits 9, complete\n",
         ),
         (
-            "t intro [f:t].",
-            "",
-            Status::Grammar,
-            "grammar refused: signature\n",
+            LIST,
+            "mgsat (X, ne_list, tl:X).",
+            "ale: inside the fragment\ncommand 1: mgsat\nanswer 1\n[1] ne_list\n  hd: bot\n  tl: [1]\nanswers 1, visits 7, complete\n",
         ),
         (
-            "a sub [].",
-            "mgsat a. mgsat a.",
-            Status::Commands,
-            "commands refused: 9 NotBuilt command 0\n",
+            LIST,
+            "mgsat (X, tl:tl:X, tl:tl:tl:X).",
+            "ale: inside the fragment\ncommand 1: mgsat\nanswer 1\n[1] ne_list\n  hd: bot\n  tl: [1]\nanswers 1, visits 15, complete\n",
         ),
         (
-            "a sub [].",
-            "mgsat c.",
-            Status::Commands,
-            "commands refused: 9 NotBuilt command 0\n",
+            "p intro [f:bot, g:bot].",
+            "mgsat [f] == [g].",
+            "ale: inside the fragment\ncommand 1: mgsat\nanswer 1\np\n  f: [1] bot\n  g: [1]\nanswers 1, visits 6, complete\n",
         ),
         (
-            "a sub [].",
-            "mgsat f:a.",
-            Status::Commands,
-            "commands refused: 9 NotBuilt command 0\n",
+            ":- multifile foo/1. a sub [].",
+            "mgsat a. % twice\nmgsat a.",
+            "ale: inside the fragment\npassed over: declaration 1 multifile\ncommand 1: mgsat\nanswer 1\na\nanswers 1, visits 2, complete\ncommand 2: mgsat\nanswer 1\na\nanswers 1, visits 2, complete\n",
         ),
     ] {
-        let ran = ran_well(rt.alloc(), grammar, commands)?;
-        assert_eq!(rt; ran.status, status, "{grammar} {commands}");
-        assert!(rt; ran.sink.bytes() == text.as_bytes(), "{grammar} {commands}");
+        assert!(rt;
+            gives(rt.alloc(), grammar, commands, Status::Done, text)?,
+            "{grammar} {commands}"
+        );
     }
+    Ok(())
+}
+
+#[test]
+fn refused_grammars(rt: HostRuntime) -> Result<(), AllocError> {
+    for (grammar, text) in [
+        (
+            "a sub [c,d]. b sub [c,d].",
+            "grammar refused: signature 4 NoJoin a b c d\n",
+        ),
+        ("t intro [f:t].", "grammar refused: signature 7 Loop t\n"),
+        (
+            "'A' sub ['A'].",
+            "grammar refused: signature 3 SubCycle 'A'\n",
+        ),
+        ("a sub [b]", "grammar refused: token 2 NoEnd at 0\n"),
+        ("a sub []. 'x", "grammar refused: token 1 BadToken at 10\n"),
+        (
+            "p(X) if prolog(foo(X)).",
+            "grammar refused: form 2 OutOfProfile declaration 1 prolog\n",
+        ),
+        (
+            "a sub []. w =@ a.",
+            "grammar refused: form 2 OutOfProfile declaration 2 =@\n",
+        ),
+        (
+            "a b.",
+            "grammar refused: form 3 NotADeclaration declaration 1\n",
+        ),
+        (
+            "a sub []. w ---> a.",
+            "grammar refused: stage 1 NotBuilt declaration 2\n",
+        ),
+    ] {
+        assert!(rt;
+            gives(rt.alloc(), grammar, "", Status::Grammar, text)?,
+            "{grammar}"
+        );
+    }
+    Ok(())
+}
+
+#[test]
+fn refused_commands(rt: HostRuntime) -> Result<(), AllocError> {
+    for (commands, text) in [
+        (
+            "mgsat c.",
+            "commands refused: 6 Name command 1 names 1 UnknownType c\n",
+        ),
+        (
+            "mgsat a. mgsat 'F':a.",
+            "commands refused: 6 Name command 2 names 2 UnknownFeature 'F'\n",
+        ),
+        ("mgsat.", "commands refused: 5 BadCommand command 1\n"),
+        ("mgsat a. 'x", "commands refused: 3 BadToken at 9\n"),
+        ("mgsat a. mgsat", "commands refused: 4 NoEnd at 9\n"),
+        (
+            "mgsat a. mgsat [a].",
+            "commands refused: 9 NotBuilt command 2\n",
+        ),
+    ] {
+        assert!(rt;
+            gives(rt.alloc(), "a sub [].", commands, Status::Commands, text)?,
+            "{commands}"
+        );
+    }
+    Ok(())
+}
+
+#[test]
+fn files_that_are_no_text(rt: HostRuntime) -> Result<(), AllocError> {
+    let alloc = rt.alloc();
+    let grammar = run_over(
+        alloc,
+        b"a sub \xff[].",
+        b"",
+        Vec::new(alloc),
+        Vec::new(alloc),
+        100,
+    )?;
+    assert_eq!(rt; grammar.status, Status::Grammar);
+    assert!(rt; grammar.sink.bytes() == b"grammar refused: file 2 NotText at 6\n".as_slice());
+    let commands = run_over(
+        alloc,
+        b"",
+        b"\xe2\x82",
+        Vec::new(alloc),
+        Vec::new(alloc),
+        100,
+    )?;
+    assert_eq!(rt; commands.status, Status::Commands);
+    assert!(rt; commands.sink.bytes() == b"commands refused: 2 NotText at 0\n".as_slice());
     Ok(())
 }
 
@@ -258,7 +355,7 @@ fn large_searches(rt: HostRuntime) -> Result<(), AllocError> {
             .ends_with(b"answers 1, visits 402, complete\n")
     );
     let deeper = ran_well(alloc, LIST, nested(alloc, 201)?.as_str())?;
-    assert_eq!(rt; deeper.status, Status::Commands);
+    assert!(rt; deeper.sink.bytes() == b"commands refused: 5 BadCommand command 1\n".as_slice());
     Ok(())
 }
 
@@ -294,8 +391,10 @@ fn budgets(rt: HostRuntime) -> Result<(), AllocError> {
         short.text.as_bytes()
             == b"ale: inside the fragment\ncommand 1: mgsat\nanswers 0, visits 3, unfinished\n".as_slice()
     );
-    let enough = reported(alloc, LISTS_OF_A, "mgsat hd:a.", 4)?;
+    let enough = reported(alloc, LISTS_OF_A, "mgsat hd:a. mgsat hd:a.", 4)?;
     assert_eq!(rt; enough.status, Status::Done);
+    let second = reported(alloc, LISTS_OF_A, "mgsat a. mgsat hd:a. mgsat a.", 3)?;
+    assert_eq!(rt; second.status, Status::Unfinished);
     Ok(())
 }
 

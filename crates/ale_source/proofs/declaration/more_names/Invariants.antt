@@ -1,8 +1,0 @@
-use Rattle.std.proofs.Common.{◌≡◌, ◌-◌, length}
-use Rattle.ale_source.specs.declared.lexeme.Mark.TheVariants.{Comma}
-use Rattle.ale_source.specs.Reading.{parts_at, name_at}
-use Rattle.ale_source.proofs.Loops.{with_front}
-use Rattle.ale_source.proofs.declaration.more_names.Given as goal
-
-abbrev pub invariant-loop-read : goal.invariant-loop-read
-invariant-loop-read l = with_front l.found.items (parts_at (length l.lexemes - l._read) Comma name_at l.rest) ≡ parts_at (length l.lexemes) Comma name_at l.lexemes
