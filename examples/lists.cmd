@@ -1,1 +1,2 @@
-mgsat (hd:a, tl:ne_list).
+mgsat (X, hd:a, tl:tl:X).
+mgsat (hd:a, (e_list ; ne_list)).
