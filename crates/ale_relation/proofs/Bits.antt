@@ -1,12 +1,13 @@
 -- The bits of a relation's rows, before and after a change of its words.
-use Rattle.std.proofs.Common.{◌≡◌, ℕ, ◌+◌, ◌*◌, ◌/◌, ◌%◌, ◌^◌, ◌<◌, ◌≤◌, ◌≢◌, ◌⊎◌, Bool, true, false, ◌||◌, ◌&&◌, List, length, get_or, set, replicate, eqb, max, refl, sym, ap, inl, inr, arith, ◌∙◌, bit_and, bit_or, w64}
+use Rattle.std.proofs.Common.{◌≡◌, ℕ, ◌+◌, ◌*◌, ◌/◌, ◌%◌, ◌^◌, ◌<◌, ◌≤◌, ◌≢◌, ◌⊎◌, Bool, true, false, ◌||◌, ◌&&◌, List, length, get_or, set, replicate, eqb, max, min, refl, sym, ap, inl, inr, arith, ◌∙◌, bit_and, bit_or, w64}
+use Rattle.std.specs.Prelude.{not, Option, Some, None, is_some, IfNone}
 use Rattle.std.specs.Int.{bit_at}
 use Rattle.std.proofs.lemmas.Bool.{cases_lt, cases_eq, cases_order, eq-eqb, ne_eqb, and_left, and_right, and_from, or_left}
 use Rattle.std.proofs.lemmas.Bool.Decides.{nat_tests}
 use Rattle.std.proofs.lemmas.List.{get_or-set_same, get_or-set_other, get_or-replicate, get_or_past, get_or_read, length-replicate}
 use Rattle.std.proofs.lemmas.Nat.{same_from_place, mul-add-lt, mul-le, row_fits}
-use Rattle.std.proofs.lemmas.Nat.Bits.{bit_at-lt, bit_at-zero, bit_at_or, bit_at_set_same, bit_at_set_other, shr_and_one}
-use Rattle.ale_relation.specs.Rows.{Rows, row_width, holds}
+use Rattle.std.proofs.lemmas.Nat.Bits.{bit_at-lt, bit_at-zero, bit_at_and, bit_at_or, bit_at_set_same, bit_at_set_other, shr_and_one}
+use Rattle.ale_relation.specs.Rows.{Rows, row_width, holds, both_hold, both_but}
 
 -- bit `y` of row `x`, where `w` words make a row
 abbrev pub bit : List ℕ → ℕ → ℕ → ℕ → Bool
@@ -132,3 +133,51 @@ joined_holds size w old new to from x y wide joins within =
 pub rows_apart : (w to from : ℕ) → (from < to) ⊎ (to ≤ from) → (from * w + w ≤ to * w) ⊎ (to * w ≤ from * w)
 rows_apart w to from (inl before) = inl (row_fits from w to w before (omega arith))
 rows_apart w to from (inr after) = inr (mul-le to w from w after (omega arith))
+
+-- ---- words of rows that have a bit in common
+
+-- the word of a row in the code
+pub word_bits : (ws : List ℕ) (w x place word : ℕ) → x * w + place < length ws → word ≡ get_or ws (x * w + place) word → (k : ℕ) → k / 64 ≡ place → bit ws w x k ≡ eqb (bit_at word (k % 64)) 1
+word_bits ws w x place word within read k e =
+    ap (λ p. eqb (bit_at (get_or ws (x * w + p) 0) (k % 64)) 1) e ∙ ap (λ v. eqb (bit_at v (k % 64)) 1) (sym (get_or_read ws (x * w + place) word within read 0))
+
+min_bit : (p q : ℕ) → p < 2 → q < 2 → min p q ≡ 0 → (eqb p 1 && eqb q 1) ≡ false
+min_bit p q h k none = grind (arith, nat_tests)
+
+-- words without a bit in common
+pub apart_bits : (u v i : ℕ) → bit_and u v ≡ 0 → (eqb (bit_at u i) 1 && eqb (bit_at v i) 1) ≡ false
+apart_bits u v i none =
+    min_bit (bit_at u i) (bit_at v i) (bit_at-lt u i) (bit_at-lt v i) (sym (bit_at_and u v i) ∙ ap (λ n. bit_at n i) none ∙ bit_at-zero i)
+
+within_bit : (p q r : ℕ) → p < 2 → q < 2 → r < 2 → min (min p q) r ≡ min p q → ((eqb p 1 && eqb q 1) && not (eqb r 1)) ≡ false
+within_bit p q r h k l all = grind (arith, nat_tests)
+
+-- words whose common bits are all in a third
+pub covered_bits : (u v w i : ℕ) → bit_and (bit_and u v) w ≡ bit_and u v → ((eqb (bit_at u i) 1 && eqb (bit_at v i) 1) && not (eqb (bit_at w i) 1)) ≡ false
+covered_bits u v w i all =
+    within_bit (bit_at u i) (bit_at v i) (bit_at w i) (bit_at-lt u i) (bit_at-lt v i) (bit_at-lt w i)
+    (ap (λ n. min n (bit_at w i)) (sym (bit_at_and u v i)) ∙ sym (bit_at_and (bit_and u v) w i) ∙ ap (λ n. bit_at n i) all ∙ bit_at_and u v i)
+
+-- a word of a row is within the words
+pub word_place : (size w x place : ℕ) → w ≡ row_width size → x < size → place < row_width size → x * w + place < size * w
+word_place size w x place e p q = omega (arith, mul-add-lt x w place size p (omega arith))
+
+-- what fails at the numbers whose bits are in the words before a place, and at those of the word there
+pub place_next : (passes : ℕ → Bool) (size place : ℕ) → ((k : ℕ) → k < size → k / 64 < place → passes k ≡ false) → ((k : ℕ) → k < size → k / 64 ≡ place → passes k ≡ false) → (k : ℕ) → k < size → k / 64 < place + 1 → passes k ≡ false
+place_next passes size place before here k inside within =
+    elim (cases_eq (k / 64) place) [
+      | inl same ↦ here k inside same
+      | inr apart ↦ before k inside (omega arith)
+    ]
+
+-- what is known of nothing, where nothing was found
+pub nothing_found : {A P : Type 0} (o : Option A) → is_some o ≡ false → IfNone o P → P
+nothing_found None none h = h
+nothing_found (Some x) none h = absurd cc
+
+-- a word that has no bit in common with another
+pub apart_rows : (rows : Rows) (a b u v k : ℕ) → holds rows a k ≡ eqb (bit_at u (k % 64)) 1 → holds rows b k ≡ eqb (bit_at v (k % 64)) 1 → bit_and u v ≡ 0 → both_hold rows a b k ≡ false
+apart_rows rows a b u v k at_a at_b none = rw (at_a, at_b) (apart_bits u v (k % 64) none)
+
+pub covered_rows : (rows : Rows) (a b c u v w k : ℕ) → holds rows a k ≡ eqb (bit_at u (k % 64)) 1 → holds rows b k ≡ eqb (bit_at v (k % 64)) 1 → holds rows c k ≡ eqb (bit_at w (k % 64)) 1 → bit_and (bit_and u v) w ≡ bit_and u v → both_but rows a b c k ≡ false
+covered_rows rows a b c u v w k at_a at_b at_c all = rw (at_a, at_b, at_c) (covered_bits u v w (k % 64) all)

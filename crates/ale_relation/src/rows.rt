@@ -2,19 +2,36 @@ ghost use Rattle.std.specs.Prelude.{
   ◌≡◌,
   ℕ,
   ◌+◌,
+  ◌*◌,
   ◌<◌,
   ◌≤◌,
   ◌==◌,
   ◌&&◌,
   ◌||◌,
   ◌⊎◌,
+  ◌/◌,
+  ◌%◌,
+  ◌↔◌,
   false,
   IfOk,
+  IfSome,
+  IfNone,
+  IsTrue,
   slice_index,
   vec_len,
   bit_or,
 };
-ghost use Rattle.ale_relation.specs.Rows.{holds, count_below};
+ghost use Rattle.std.specs.Int.{bit_at};
+ghost use Rattle.ale_relation.specs.Rows.{
+  row_width,
+  holds,
+  count_below,
+  both_hold,
+  both_but,
+  HasNone,
+  HasSome,
+  IsFirst,
+};
 
 use std::alloc::{AllocError, Global};
 use std::marker::Model;
@@ -102,6 +119,93 @@ impl Relation {
             }
         }
         count
+    }
+
+    /// The first number to which both `a` and `b` stand.
+    ///
+    /// It takes a step for each word of a row, and for each bit of the words in which both rows have a bit.
+    pub fn first_common(&self, a: usize, b: usize) -> Option<usize>
+        requires a_in { a < self.now.size }
+        requires b_in { b < self.now.size }
+        ensures some { IfSome result (λ k. IsFirst (both_hold self.now a b) 0 self.now.size k) }
+        ensures none { IfNone result (HasNone (both_hold self.now a b) 0 self.now.size) }
+    {
+        for place in 0..self.width {
+            if self.word(a, place) & self.word(b, place) != 0 {
+                let found = self.first_common_in(a, b, place);
+                if found.is_some() {
+                    return found;
+                }
+            }
+        }
+        None
+    }
+
+    /// Whether `a` and `b` stand to a number to which `c` does not.
+    ///
+    /// It takes a step for each word of a row, and for each bit of the words in which there is such a number.
+    pub fn has_common_outside(&self, a: usize, b: usize, c: usize) -> bool
+        requires a_in { a < self.now.size }
+        requires b_in { b < self.now.size }
+        requires c_in { c < self.now.size }
+        ensures { IsTrue result ↔ HasSome (both_but self.now a b c) 0 self.now.size }
+    {
+        for place in 0..self.width {
+            let common = self.word(a, place) & self.word(b, place);
+            if common & self.word(c, place) != common && self.has_outside_in(a, b, c, place) {
+                return true;
+            }
+        }
+        false
+    }
+
+    /// The word of a row at a place.
+    fn word(&self, a: usize, place: usize) -> u64
+        requires a_in { a < self.now.size }
+        requires place_in { place < row_width self.now.size }
+        ensures { (k : ℕ) → k / 64 ≡ place →
+            holds self.now a k ≡ (bit_at result (k % 64) == 1) }
+    {
+        self.words[a * self.width + place]
+    }
+
+    /// The first number to which both `a` and `b` stand of those whose bits are in the word at a place.
+    fn first_common_in(&self, a: usize, b: usize, place: usize) -> Option<usize>
+        requires a_in { a < self.now.size }
+        requires b_in { b < self.now.size }
+        requires place_in { place < row_width self.now.size }
+        ensures some { IfSome result (λ k. IsFirst (both_hold self.now a b) (place * 64) self.now.size k) }
+        ensures none { IfNone result
+            ((k : ℕ) → k < self.now.size → k / 64 ≡ place → both_hold self.now a b k ≡ false) }
+    {
+        let size = self.size;
+        let start = place * WORD;
+        for k in start..size.min(start + WORD) {
+            if self.holds(a, k) && self.holds(b, k) {
+                return Some(k);
+            }
+        }
+        None
+    }
+
+    /// Whether `a` and `b` stand to a number to which `c` does not, of those whose bits are in the word at a place.
+    fn has_outside_in(&self, a: usize, b: usize, c: usize, place: usize) -> bool
+        requires a_in { a < self.now.size }
+        requires b_in { b < self.now.size }
+        requires c_in { c < self.now.size }
+        requires place_in { place < row_width self.now.size }
+        ensures some { IsTrue result → HasSome (both_but self.now a b c) 0 self.now.size }
+        ensures none { result ≡ false →
+            (k : ℕ) → k < self.now.size → k / 64 ≡ place → both_but self.now a b c k ≡ false }
+    {
+        let size = self.size;
+        let start = place * WORD;
+        for k in start..size.min(start + WORD) {
+            if self.holds(a, k) && self.holds(b, k) && !self.holds(c, k) {
+                return true;
+            }
+        }
+        false
     }
 
     /// Lets each number that stands to `middle` stand to all that `middle` stands to.

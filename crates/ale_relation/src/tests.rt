@@ -69,6 +69,46 @@ fn adds_pairs_past_a_word(rt: HostRuntime) -> Result<(), Fail> {
 }
 
 #[test]
+fn finds_the_first_common_number_past_a_word(rt: HostRuntime) -> Result<(), Fail> {
+    let mut relation = Relation::new(rt.alloc(), 130)?;
+    relation.add(0, 3);
+    relation.add(1, 4);
+    relation.add(0, 70);
+    relation.add(1, 70);
+    relation.add(0, 71);
+    relation.add(1, 71);
+    assert_eq!(rt; relation.first_common(0, 1), Some(70));
+    Ok(())
+}
+
+#[test]
+fn finds_the_last_number_in_common(rt: HostRuntime) -> Result<(), Fail> {
+    let mut relation = Relation::new(rt.alloc(), 130)?;
+    relation.add(0, 129);
+    assert_eq!(rt; relation.first_common(0, 129), None);
+    relation.add(129, 129);
+    assert_eq!(rt; relation.first_common(0, 129), Some(129));
+    assert!(rt; !relation.has_common_outside(0, 129, 0));
+    assert!(rt; relation.has_common_outside(0, 129, 1));
+    Ok(())
+}
+
+#[test]
+fn finds_a_common_number_outside_past_a_word(rt: HostRuntime) -> Result<(), Fail> {
+    let mut relation = Relation::new(rt.alloc(), 130)?;
+    relation.add(0, 3);
+    relation.add(1, 3);
+    relation.add(2, 3);
+    relation.add(0, 128);
+    assert!(rt; !relation.has_common_outside(0, 1, 2));
+    relation.add(1, 128);
+    assert!(rt; relation.has_common_outside(0, 1, 2));
+    relation.add(2, 128);
+    assert!(rt; !relation.has_common_outside(0, 1, 2));
+    Ok(())
+}
+
+#[test]
 fn closes_a_long_chain(rt: HostRuntime) -> Result<(), Fail> {
     let edges = chain(rt.alloc(), 4096)?;
     let relation = reachability(rt.alloc(), 4096, &edges)?;
