@@ -1,5 +1,5 @@
 ghost use Rattle.std.specs.Prelude.{IsTrue};
-ghost use Rattle.ale_signature.specs.Order.{hierarchy};
+ghost use Rattle.ale_hierarchy.specs.Order.{hierarchy};
 ghost use Rattle.ale_graph.specs.Facts.{Fits, FitsFact};
 
 use ale_graph::{Closed, Fact, Graph, close};
@@ -79,7 +79,7 @@ pub fn lists(alloc: Global) -> Result<Option<Signature>, AllocError> {
 }
 
 /// Whether the fact speaks of nodes below `next`, and of types and features of the signature.
-#[tactic(auto, unfolding(ale_signature::specs::Order::hierarchy))]
+#[tactic(auto, unfolding(ale_hierarchy::specs::Order::hierarchy))]
 fn speaks_of_known(sig: &Signature, fact: &Fact, next: usize) -> bool
     ensures { IsTrue result → FitsFact (hierarchy sig.now) next fact.now }
 {

@@ -5,7 +5,7 @@ use ale_signature::{Signature, TypeId};
 use std::alloc::{AllocError, Global};
 
 /// What a search for a node of the type finds; None where the signature has no such type.
-#[tactic(auto, using(ale_logic::proofs::Terms::description_rules), unfolding(ale_signature::specs::Order::hierarchy))]
+#[tactic(auto, using(ale_logic::proofs::Terms::description_rules), unfolding(ale_hierarchy::specs::Order::hierarchy))]
 fn found(
     alloc: Global,
     sig: &Signature,

@@ -2,7 +2,7 @@
 use Rattle.std.proofs.Common.{◌≡◌, ℕ, suc, ◌+◌, ◌<◌, ◌≤◌, Bool, true, false, eqb, [], ◌∷◌, inl, refl, sym, ◌∙◌, subst, subst₂, le_refl, arith, Option, Some, None, if◌then◌else◌}
 use Rattle.std.proofs.lemmas.Bool.{eqb-true, eq-eqb}
 use Rattle.ale_declared.specs.Lists.{Has, upto, sum_over}
-use Rattle.ale_signature.specs.Hierarchy.{Hierarchy, IsLawful, size_at}
+use Rattle.ale_hierarchy.specs.Hierarchy.{Hierarchy, IsLawful, size_at}
 use Rattle.ale_graph.specs.declared.fact.Fact.TheVariants.{OfType, Value}
 use Rattle.ale_graph.specs.Filling.{Filled, Gap, value_told, class_value, gap_at, gap, first_gap, fill_gap, gap_size, class_debt, debt}
 use Rattle.ale_graph.proofs.Lists.{some_one, none_some, has_right, has_upto, below_upto, sum_upto, sum_le, sum_drop}

@@ -1,7 +1,7 @@
 -- The law of the closure's first step: it gives the least classes and types, which are determined by the
 -- facts, and nothing exactly where two types without a join are asked.
 use Rattle.std.proofs.Common.{◌≡◌, ℕ, List, ◌⊎◌, inl, inr, refl, sym, ◌∙◌, arith, Option, Some, None}
-use Rattle.ale_signature.specs.Hierarchy.{Hierarchy, Above, IsLawful}
+use Rattle.ale_hierarchy.specs.Hierarchy.{Hierarchy, Above, IsLawful}
 use Rattle.ale_graph.specs.declared.fact.Fact.{Fact}
 use Rattle.ale_graph.specs.Least.{MustBe, Clashes}
 use Rattle.ale_graph.specs.Classes.{classes}

@@ -2,7 +2,7 @@
 -- keeps each class together and has at least each type that a node must be.
 use Rattle.std.proofs.Common.{◌≡◌, ℕ, zero, suc, ◌<◌, ◌≤◌, List, [], ◌∷◌, get_or, length, ◌⊎◌, inl, inr, refl, sym, ap, ◌∙◌, subst, arith, Some, None}
 use Rattle.ale_declared.specs.Lists.{Has}
-use Rattle.ale_signature.specs.Hierarchy.{Hierarchy, Above, IsLawful}
+use Rattle.ale_hierarchy.specs.Hierarchy.{Hierarchy, Above, IsLawful}
 use Rattle.ale_graph.specs.declared.fact.Fact.{Fact}
 use Rattle.ale_graph.specs.declared.fact.Fact.TheVariants.{OfType, Value, Same}
 use Rattle.ale_graph.specs.declared.node.Node.{Node}

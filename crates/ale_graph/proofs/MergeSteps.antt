@@ -3,7 +3,7 @@ use Rattle.std.proofs.Common.{◌≡◌, ℕ, ◌+◌, ◌<◌, ◌≤◌, min, 
 use Rattle.std.proofs.lemmas.Bool.{and_parts, and_from, eqb-true, eq-eqb, ltb-true, lt-ltb}
 use Rattle.std.proofs.lemmas.List.{length-map}
 use Rattle.ale_declared.specs.Lists.{Has, upto}
-use Rattle.ale_signature.specs.Hierarchy.{Hierarchy, IsLawful}
+use Rattle.ale_hierarchy.specs.Hierarchy.{Hierarchy, IsLawful}
 use Rattle.ale_graph.specs.declared.fact.Fact.TheVariants.{Value, Same}
 use Rattle.ale_graph.specs.Structures.{value_in, is_rising}
 use Rattle.ale_graph.specs.Settled.{first_some}

@@ -2,7 +2,7 @@
 -- nothing where a join is missing or differing nodes met. Source: Carpenter 1992, chapters 3, 6 and 8.
 use Rattle.std.specs.Prelude.{ℕ, zero, suc, Bool, true, not, eqb, Option, Some, None, List, [], ◌∷◌, ◌++◌, map, length, get_or, if◌then◌else◌}
 use Rattle.ale_declared.specs.Lists.{upto, every}
-use Rattle.ale_signature.specs.Hierarchy.{Hierarchy}
+use Rattle.ale_hierarchy.specs.Hierarchy.{Hierarchy}
 use Rattle.ale_graph.specs.declared.node.Node.{Node}
 use Rattle.ale_graph.specs.declared.fact.Fact.{Fact}
 use Rattle.ale_graph.specs.declared.fact.Fact.TheVariants.{OfType, Value, Same, Differ}

@@ -2,7 +2,7 @@
 -- feature, the first such pair is told to be the same. Source: extensionality, Carpenter 1992, chapter 8.
 use Rattle.std.specs.Prelude.{ℕ, Bool, true, false, ◌&&◌, eqb, ltb, Option, Some, None, [], ◌∷◌, ◌++◌, if◌then◌else◌}
 use Rattle.ale_declared.specs.Lists.{upto, every}
-use Rattle.ale_signature.specs.Hierarchy.{Hierarchy}
+use Rattle.ale_hierarchy.specs.Hierarchy.{Hierarchy}
 use Rattle.ale_graph.specs.declared.fact.Fact.TheVariants.{Same}
 use Rattle.ale_graph.specs.Settled.{first_pair, settle}
 use Rattle.ale_graph.specs.Classes.{merged, class_sum}

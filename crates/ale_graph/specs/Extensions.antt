@@ -1,7 +1,7 @@
 -- When one structure extends another: by more nodes, behind those that it has. This project's own notion,
 -- for structures in which a derivation finds the nodes that it needs.
 use Rattle.std.specs.Prelude.{◌≡◌, List, ◌++◌}
-use Rattle.ale_signature.specs.Hierarchy.{Hierarchy}
+use Rattle.ale_hierarchy.specs.Hierarchy.{Hierarchy}
 use Rattle.ale_graph.specs.declared.node.Node.{Node}
 use Rattle.ale_graph.specs.Structures.{Structure, IsStructure}
 

@@ -2,7 +2,7 @@
 -- the first missing one, of the restricting type. Source: total well-typedness, Carpenter 1992, chapter 6.
 use Rattle.std.specs.Prelude.{ℕ, suc, ◌&&◌, eqb, Option, Some, None, List, [], ◌∷◌, ◌++◌, if◌then◌else◌}
 use Rattle.ale_declared.specs.Lists.{upto, sum_over}
-use Rattle.ale_signature.specs.Hierarchy.{Hierarchy}
+use Rattle.ale_hierarchy.specs.Hierarchy.{Hierarchy}
 use Rattle.ale_graph.specs.declared.fact.Fact.{Fact}
 use Rattle.ale_graph.specs.declared.fact.Fact.TheVariants.{OfType, Value, Same, Differ}
 use Rattle.ale_graph.specs.Settled.{first_some, first_pair, settle}

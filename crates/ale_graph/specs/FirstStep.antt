@@ -1,7 +1,7 @@
 -- The law of the closure's first step: its classes and types are the least ones of the facts, and where
 -- there are none the facts ask for two types without a join. Source: Carpenter 1992, chapters 3 and 6.
 use Rattle.std.specs.Prelude.{◌≡◌, ◌↔◌, ℕ, ◌≤◌, Option, Some, None, List}
-use Rattle.ale_signature.specs.Hierarchy.{Hierarchy, Above, IsLawful}
+use Rattle.ale_hierarchy.specs.Hierarchy.{Hierarchy, Above, IsLawful}
 use Rattle.ale_graph.specs.declared.fact.Fact.{Fact}
 use Rattle.ale_graph.specs.Facts.{Fits}
 use Rattle.ale_graph.specs.Least.{SameClass, MustBe, Clashes}

@@ -2,7 +2,7 @@
 -- the facts so far. Source: unification and type inference of feature structures, Carpenter 1992, chapters 3, 6.
 use Rattle.std.specs.Prelude.{◌≡◌, ℕ, ◌<◌, ◌≤◌, true, Some, List, length}
 use Rattle.ale_declared.specs.Lists.{Has}
-use Rattle.ale_signature.specs.Hierarchy.{Hierarchy, Above}
+use Rattle.ale_hierarchy.specs.Hierarchy.{Hierarchy, Above}
 use Rattle.ale_graph.specs.declared.fact.Fact.{Fact}
 use Rattle.ale_graph.specs.declared.fact.Fact.TheVariants.{Value}
 use Rattle.ale_graph.specs.Structures.{value_in, is_rising}

@@ -2,7 +2,7 @@
 -- least. Source: unification and type inference of feature structures, Carpenter 1992, chapters 3 and 6.
 use Rattle.std.specs.Prelude.{◌≡◌, ℕ, Some, None, List}
 use Rattle.ale_declared.specs.Lists.{Has}
-use Rattle.ale_signature.specs.Hierarchy.{Hierarchy, Above}
+use Rattle.ale_hierarchy.specs.Hierarchy.{Hierarchy, Above}
 use Rattle.ale_graph.specs.declared.fact.Fact.{Fact}
 use Rattle.ale_graph.specs.declared.fact.Fact.TheVariants.{OfType, Value, Same}
 

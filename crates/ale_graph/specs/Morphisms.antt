@@ -2,7 +2,7 @@
 -- features, differing pairs and roots. Source: subsumption, Carpenter 1992, chapters 2 and 3.
 use Rattle.std.specs.Prelude.{◌≡◌, ◌≢◌, ℕ, ◌<◌, Some}
 use Rattle.ale_declared.specs.Lists.{Has}
-use Rattle.ale_signature.specs.Hierarchy.{Hierarchy, Above}
+use Rattle.ale_hierarchy.specs.Hierarchy.{Hierarchy, Above}
 use Rattle.ale_graph.specs.Structures.{Structure, count, type_of, value_of, root_at}
 
 -- the roots of both left aside

@@ -1,7 +1,7 @@
 -- The types of the first step, by passes over the facts: each class is raised to whatever a fact asks of it.
 -- Source: type inference by repeated passes, folklore.
 use Rattle.std.specs.Prelude.{◌≡◌, ℕ, ◌<◌, Bool, true, Option, Some, None, List, [], ◌∷◌, length, slice_set, if◌then◌else◌}
-use Rattle.ale_signature.specs.Hierarchy.{Hierarchy}
+use Rattle.ale_hierarchy.specs.Hierarchy.{Hierarchy}
 use Rattle.ale_graph.specs.declared.fact.Fact.{Fact}
 use Rattle.ale_graph.specs.declared.fact.Fact.TheVariants.{OfType, Value, Same, Differ}
 use Rattle.ale_graph.specs.Types.{least_types}

@@ -2,7 +2,7 @@
 -- differ, and roots; and what makes one total, well typed and extensional. Source: Carpenter 1992, chapters 2, 6, 8.
 use Rattle.std.specs.Prelude.{◌≡◌, ◌≢◌, ℕ, ◌<◌, Bool, true, ◌&&◌, IsTrue, ltb, eqb, Option, Some, None, List, [], ◌∷◌, length, get_or, if◌then◌else◌}
 use Rattle.ale_declared.specs.Lists.{Has, every}
-use Rattle.ale_signature.specs.Hierarchy.{Hierarchy, Above}
+use Rattle.ale_hierarchy.specs.Hierarchy.{Hierarchy, Above}
 use Rattle.ale_graph.specs.declared.node.Node.{Node}
 
 pub record Structure : Type 0 where

@@ -1,7 +1,7 @@
 -- The law of the closure: it is total, extensional and universal, and there is none only where no structure
 -- fulfils the facts. Source: least total well-typed extensions, Carpenter 1992, chapters 3, 6 and 8.
 use Rattle.std.specs.Prelude.{◌≡◌, ◌↔◌, ℕ, ◌<◌, ◌≤◌, Option, Some, None, List, ◌++◌, length}
-use Rattle.ale_signature.specs.Hierarchy.{Hierarchy, Above, IsLawful}
+use Rattle.ale_hierarchy.specs.Hierarchy.{Hierarchy, Above, IsLawful}
 use Rattle.ale_graph.specs.declared.fact.Fact.{Fact}
 use Rattle.ale_graph.specs.declared.closed.Closed.{Closed}
 use Rattle.ale_graph.specs.Structures.{Structure, IsStructure, count, type_of, value_of}

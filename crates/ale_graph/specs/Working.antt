@@ -1,7 +1,7 @@
 -- The closure's working lists, filled and merged step by step. This project's own representation.
 use Rattle.std.specs.Prelude.{◌≡◌, ℕ, Bool, ◌&&◌, eqb, Option, Some, None, List, [], ◌∷◌, ◌++◌, length, is_some, filter, if◌then◌else◌}
 use Rattle.ale_declared.specs.Lists.{upto}
-use Rattle.ale_signature.specs.Hierarchy.{Hierarchy}
+use Rattle.ale_hierarchy.specs.Hierarchy.{Hierarchy}
 use Rattle.ale_graph.specs.declared.fact.Fact.{Fact}
 use Rattle.ale_graph.specs.declared.fact.Fact.TheVariants.{OfType, Value, Same}
 use Rattle.ale_graph.specs.declared.draft.Draft.{Draft}

@@ -1,6 +1,6 @@
 ghost use Rattle.std.specs.Prelude.{◌≡◌, IfOk, MatchOption};
-ghost use Rattle.ale_signature.specs.Hierarchy.{IsLawful};
-ghost use Rattle.ale_signature.specs.Order.{hierarchy};
+ghost use Rattle.ale_hierarchy.specs.Hierarchy.{IsLawful};
+ghost use Rattle.ale_hierarchy.specs.Order.{hierarchy};
 ghost use Rattle.ale_graph.specs.Facts.{Fits};
 ghost use Rattle.ale_graph.specs.Classes.{classes};
 ghost use Rattle.ale_graph.specs.Types.{least_types};

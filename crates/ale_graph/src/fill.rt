@@ -1,6 +1,6 @@
 ghost use Rattle.std.specs.Prelude.{◌≡◌, ◌<◌, IfOk};
-ghost use Rattle.ale_signature.specs.Hierarchy.{IsLawful};
-ghost use Rattle.ale_signature.specs.Order.{hierarchy};
+ghost use Rattle.ale_hierarchy.specs.Hierarchy.{IsLawful};
+ghost use Rattle.ale_hierarchy.specs.Order.{hierarchy};
 ghost use Rattle.ale_graph.specs.Filling.{fill};
 ghost use Rattle.ale_graph.specs.Raising.{AllInside};
 ghost use Rattle.ale_graph.specs.Working.{IsDraft, lists_of, filled_of, add_value, fill_feature, fill_class, features_of};

@@ -1,7 +1,7 @@
 ghost use Rattle.std.specs.Prelude.{◌≡◌, ◌<◌, IfOk, length, option_map};
 ghost use Rattle.ale_declared.specs.Lists.{upto};
-ghost use Rattle.ale_signature.specs.Hierarchy.{IsLawful};
-ghost use Rattle.ale_signature.specs.Order.{hierarchy};
+ghost use Rattle.ale_hierarchy.specs.Hierarchy.{IsLawful};
+ghost use Rattle.ale_hierarchy.specs.Order.{hierarchy};
 ghost use Rattle.ale_graph.specs.Settled.{first_some};
 ghost use Rattle.ale_graph.specs.Collapsing.{double, first_double, collapse};
 ghost use Rattle.ale_graph.specs.Drafts.{class_in, same_lists};

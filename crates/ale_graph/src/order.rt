@@ -1,9 +1,9 @@
-#![tactic(auto, unfolding(ale_signature::specs::Order::hierarchy))]
+#![tactic(auto, unfolding(ale_hierarchy::specs::Order::hierarchy))]
 
 ghost use Rattle.std.specs.Prelude.{◌≡◌, ◌<◌, Bool, is_some, filter};
 ghost use Rattle.ale_declared.specs.Lists.{upto};
-ghost use Rattle.ale_signature.specs.Hierarchy.{IsLawful};
-ghost use Rattle.ale_signature.specs.Order.{hierarchy};
+ghost use Rattle.ale_hierarchy.specs.Hierarchy.{IsLawful};
+ghost use Rattle.ale_hierarchy.specs.Order.{hierarchy};
 
 use ale_signature::{FeatId, Signature, TypeId};
 

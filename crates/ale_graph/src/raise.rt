@@ -1,6 +1,6 @@
 ghost use Rattle.std.specs.Prelude.{◌≡◌, ℕ, ◌<◌, IfOk, MatchOption, Some, None, false, length, replicate, slice_set};
-ghost use Rattle.ale_signature.specs.Hierarchy.{IsLawful};
-ghost use Rattle.ale_signature.specs.Order.{hierarchy};
+ghost use Rattle.ale_hierarchy.specs.Hierarchy.{IsLawful};
+ghost use Rattle.ale_hierarchy.specs.Order.{hierarchy};
 ghost use Rattle.ale_graph.specs.Facts.{Fits, FitsFact};
 ghost use Rattle.ale_graph.specs.Types.{least_types};
 ghost use Rattle.ale_graph.specs.Drafts.{class_in, type_in};

@@ -1,6 +1,6 @@
 ghost use Rattle.std.specs.Prelude.{◌≡◌, ◌≤◌, ◌<◌, true, suc, eqb, [], ◌∷◌, ◌++◌, IfOk, IsTrue, List, length, map, get_or, if◌then◌else◌};
 ghost use Rattle.ale_declared.specs.Lists.{upto, every};
-ghost use Rattle.ale_signature.specs.Order.{hierarchy};
+ghost use Rattle.ale_hierarchy.specs.Order.{hierarchy};
 ghost use Rattle.ale_graph.specs.declared.fact.Fact.{Fact as OneFact};
 ghost use Rattle.ale_graph.specs.Structures.{is_formed};
 ghost use Rattle.ale_graph.specs.Closure.{is_kept_apart, classes_below, place, graph_of, closed_of};

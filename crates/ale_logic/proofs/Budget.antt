@@ -1,7 +1,7 @@
 -- How many visits a search for a description without disjunction makes at most: two for each part, and one
 -- for the answer.
 use Rattle.std.proofs.Common.{◌≡◌, ℕ, zero, suc, ◌+◌, ◌*◌, ◌<◌, ◌≤◌, true, List, [], ◌∷◌, ◌++◌, length, refl, arith, Option, Some, None}
-use Rattle.ale_signature.specs.Hierarchy.{Hierarchy}
+use Rattle.ale_hierarchy.specs.Hierarchy.{Hierarchy}
 use Rattle.ale_graph.specs.declared.closed.Closed.{Closed}
 use Rattle.ale_graph.specs.Filling.{class_value}
 use Rattle.ale_graph.specs.Closure.{close, class_of}

@@ -1,6 +1,6 @@
 -- What a budget is to a search, by induction on it.
 use Rattle.std.proofs.Common.{◌≡◌, ℕ, zero, suc, ◌≤◌, true, false, List, [], ◌∷◌, ◌++◌, refl, ap, arith}
-use Rattle.ale_signature.specs.Hierarchy.{Hierarchy}
+use Rattle.ale_hierarchy.specs.Hierarchy.{Hierarchy}
 use Rattle.ale_logic.specs.States.{State}
 use Rattle.ale_logic.specs.Visits.{Visit, fails, answers, goes, visit, visited, answered, after, search, behind, waiting_after}
 use Rattle.ale_logic.specs.Searches.{IsWaiting, BudgetLaw}

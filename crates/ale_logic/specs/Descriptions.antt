@@ -1,7 +1,7 @@
 -- Descriptions of nodes, and when one holds at a node of a feature structure.
 -- Source: the description language and its satisfaction, Carpenter 1992, chapter 4.
 use Rattle.std.specs.Prelude.{◌≡◌, ℕ, suc, ◌+◌, ◌<◌, ◌⊎◌, Some, List, [], ◌∷◌, length}
-use Rattle.ale_signature.specs.Hierarchy.{Hierarchy, Above}
+use Rattle.ale_hierarchy.specs.Hierarchy.{Hierarchy, Above}
 use Rattle.ale_graph.specs.Structures.{Structure, type_of, value_of}
 use Rattle.ale_logic.specs.declared.desc.Desc.{Desc, fold-Desc}
 use Rattle.ale_logic.specs.declared.desc.Desc.TheOpen.{Desc-F}

@@ -3,7 +3,7 @@
 -- 1992, chapter 4; budgets own.
 use Rattle.std.specs.Prelude.{◌≡◌, ℕ, ◌<◌, ◌≤◌, true, false, List, [], ◌∷◌}
 use Rattle.ale_declared.specs.Lists.{Has}
-use Rattle.ale_signature.specs.Hierarchy.{Hierarchy, IsLawful}
+use Rattle.ale_hierarchy.specs.Hierarchy.{Hierarchy, IsLawful}
 use Rattle.ale_graph.specs.Structures.{Structure, IsStructure}
 use Rattle.ale_graph.specs.Facts.{Fulfils}
 use Rattle.ale_graph.specs.Morphisms.{IsMorphismAside}

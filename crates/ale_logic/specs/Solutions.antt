@@ -2,7 +2,7 @@
 -- to subsumption, and how large a budget is enough. Source: most general satisfiers, Carpenter 1992, chapter 4.
 use Rattle.std.specs.Prelude.{◌≡◌, ℕ, ◌+◌, ◌*◌, ◌<◌, ◌≤◌, true, List, [], ◌∷◌}
 use Rattle.ale_declared.specs.Lists.{Has}
-use Rattle.ale_signature.specs.Hierarchy.{Hierarchy, IsLawful}
+use Rattle.ale_hierarchy.specs.Hierarchy.{Hierarchy, IsLawful}
 use Rattle.ale_graph.specs.Structures.{Structure, IsStructure, count}
 use Rattle.ale_graph.specs.Morphisms.{IsMorphismAside}
 use Rattle.ale_graph.specs.Closure.{node_of}

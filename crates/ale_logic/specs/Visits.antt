@@ -2,7 +2,7 @@
 -- that visits the first waiting state again and again, within a budget.
 -- Source: the order of visits is this project's own.
 use Rattle.std.specs.Prelude.{ℕ, zero, suc, Bool, true, false, Option, Some, None, List, [], ◌∷◌, ◌++◌, slice_set}
-use Rattle.ale_signature.specs.Hierarchy.{Hierarchy}
+use Rattle.ale_hierarchy.specs.Hierarchy.{Hierarchy}
 use Rattle.ale_graph.specs.declared.fact.Fact.{Fact}
 use Rattle.ale_graph.specs.declared.fact.Fact.TheVariants.{OfType, Same}
 use Rattle.ale_graph.specs.declared.closed.Closed.{Closed}

@@ -1,7 +1,7 @@
 -- The map that the walk ends with is the morphism, or there is none.
 use Rattle.std.proofs.Common.{◌≡◌, ℕ, ◌<◌, Bool, true, false, IsTrue, ◌↔◌, List, length, get_or, map, sym, ap, ◌∙◌, subst, Option, Some, None}
 use Rattle.std.proofs.lemmas.List.{length-map}
-use Rattle.ale_signature.specs.Hierarchy.{Hierarchy, Above}
+use Rattle.ale_hierarchy.specs.Hierarchy.{Hierarchy, Above}
 use Rattle.ale_graph.specs.Structures.{Structure, count, type_of, value_of, is_formed}
 use Rattle.ale_graph.specs.Morphisms.{IsMorphism}
 use Rattle.ale_graph.specs.Universal.{Agree}

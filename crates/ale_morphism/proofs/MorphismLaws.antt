@@ -1,7 +1,7 @@
 -- Laws of morphisms.
 use Rattle.std.proofs.Common.{◌≡◌, ℕ, zero, suc, ◌<◌, List, [], ◌∷◌, ◌⊎◌, inl, inr, refl, sym, ap, ◌∙◌, subst, arith, Option, Some, None, option_map}
 use Rattle.ale_declared.specs.Lists.{Has}
-use Rattle.ale_signature.specs.Hierarchy.{Hierarchy, Above, IsLawful}
+use Rattle.ale_hierarchy.specs.Hierarchy.{Hierarchy, Above, IsLawful}
 use Rattle.ale_graph.specs.Structures.{Structure, count, type_of, value_of, root_at}
 use Rattle.ale_graph.specs.Morphisms.{IsMorphism}
 use Rattle.ale_morphism.specs.Rooted.{FromRoots, IsRooted}

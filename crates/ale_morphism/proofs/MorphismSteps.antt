@@ -2,7 +2,7 @@
 use Rattle.std.proofs.Common.{◌≡◌, ◌↔◌, ℕ, zero, suc, ◌<◌, Bool, true, false, ◌&&◌, not, eqb, ltb, IsTrue, List, [], ◌∷◌, get_or, drop, ◌⊎◌, inl, inr, refl, sym, ap, ◌∙◌, subst, arith, Option, Some, None}
 use Rattle.std.proofs.lemmas.Bool.{and_parts, and_from, eq-eqb, ne_eqb, ltb-true, lt-ltb}
 use Rattle.ale_declared.specs.Lists.{Has, upto, every}
-use Rattle.ale_signature.specs.Hierarchy.{Hierarchy, Above}
+use Rattle.ale_hierarchy.specs.Hierarchy.{Hierarchy, Above}
 use Rattle.ale_graph.specs.Structures.{Structure, count, node_at, type_of, value_in, value_of, is_rising, is_node, is_formed}
 use Rattle.ale_graph.specs.Collapsing.{same_option}
 use Rattle.ale_graph.specs.Morphisms.{IsMorphism}

@@ -1,7 +1,7 @@
 -- What the walk from the roots ends with: it is known of each node where it must go, whatever the morphism.
 -- This project's own representation.
 use Rattle.std.specs.Prelude.{◌≡◌, ℕ, ◌<◌, Option, Some, None, List, length, get_or}
-use Rattle.ale_signature.specs.Hierarchy.{Hierarchy}
+use Rattle.ale_hierarchy.specs.Hierarchy.{Hierarchy}
 use Rattle.ale_graph.specs.Structures.{Structure, count}
 use Rattle.ale_graph.specs.Morphisms.{IsMorphism}
 

@@ -2,7 +2,7 @@
 -- that subsume each other are alphabetic variants. Source: Carpenter 1992, chapters 2 and 3.
 use Rattle.std.specs.Prelude.{◌≡◌, ◌≢◌, ◌⊎◌, ℕ, ◌<◌, IsTrue, option_map}
 use Rattle.ale_declared.specs.Lists.{Has}
-use Rattle.ale_signature.specs.Hierarchy.{Hierarchy, IsLawful}
+use Rattle.ale_hierarchy.specs.Hierarchy.{Hierarchy, IsLawful}
 use Rattle.ale_graph.specs.Structures.{Structure, count, type_of, value_of, root_at, is_formed, IsApart}
 use Rattle.ale_graph.specs.Morphisms.{IsMorphism, Subsumes}
 use Rattle.ale_morphism.specs.Rooted.{FromRoots, IsRooted}

@@ -2,7 +2,7 @@
 -- chapters 2 and 3.
 use Rattle.std.specs.Prelude.{ℕ, ◌<◌, Bool, true, ◌&&◌, not, eqb, ltb, Option, Some, None, List, [], ◌∷◌, get_or, drop}
 use Rattle.ale_declared.specs.Lists.{upto, every}
-use Rattle.ale_signature.specs.Hierarchy.{Hierarchy}
+use Rattle.ale_hierarchy.specs.Hierarchy.{Hierarchy}
 use Rattle.ale_graph.specs.Structures.{Structure, count, node_at, type_of, value_of}
 use Rattle.ale_graph.specs.Collapsing.{same_option}
 

@@ -2,7 +2,7 @@
 -- and values; it is its own visible part; and it subsumes whatever the structure subsumes.
 -- Source: feature structures as rooted graphs, Carpenter 1992, chapter 2.
 use Rattle.std.specs.Prelude.{◌≡◌, ◌↔◌, ℕ, ◌<◌, IsTrue, [], map, option_map}
-use Rattle.ale_signature.specs.Hierarchy.{Hierarchy}
+use Rattle.ale_hierarchy.specs.Hierarchy.{Hierarchy}
 use Rattle.ale_graph.specs.Structures.{Structure, count, type_of, value_of, is_formed}
 use Rattle.ale_graph.specs.Morphisms.{IsMorphism}
 use Rattle.ale_morphism.specs.Rooted.{IsRooted}

@@ -1,5 +1,5 @@
 ghost use Rattle.std.specs.Prelude.{◌≡◌, ◌↔◌, ◌<◌, IsTrue};
-ghost use Rattle.ale_signature.specs.Order.{hierarchy};
+ghost use Rattle.ale_hierarchy.specs.Order.{hierarchy};
 ghost use Rattle.ale_graph.specs.Structures.{count, is_formed};
 ghost use Rattle.ale_graph.specs.Morphisms.{IsMorphism};
 ghost use Rattle.ale_morphism.specs.MorphismTest.{TypesInside, image, keeps_values, keeps_node, keeps_nodes, keeps_apart, keeps_root, keeps_roots, is_morphism};

@@ -1,7 +1,7 @@
-#![tactic(auto, unfolding(ale_signature::specs::Order::hierarchy))]
+#![tactic(auto, unfolding(ale_hierarchy::specs::Order::hierarchy))]
 
 ghost use Rattle.std.specs.Prelude.{◌≡◌, ◌<◌, ltb};
-ghost use Rattle.ale_signature.specs.Order.{hierarchy};
+ghost use Rattle.ale_hierarchy.specs.Order.{hierarchy};
 
 use ale_signature::{Signature, TypeId};
 

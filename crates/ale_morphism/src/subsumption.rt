@@ -1,5 +1,5 @@
 ghost use Rattle.std.specs.Prelude.{◌≡◌, ◌<◌, ℕ, IfOk, IfSome, IsNone, length};
-ghost use Rattle.ale_signature.specs.Order.{hierarchy};
+ghost use Rattle.ale_hierarchy.specs.Order.{hierarchy};
 ghost use Rattle.ale_graph.specs.Structures.{count};
 ghost use Rattle.ale_graph.specs.Morphisms.{IsMorphism};
 ghost use Rattle.ale_graph.specs.Universal.{Agree};

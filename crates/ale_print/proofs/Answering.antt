@@ -4,8 +4,8 @@ use Rattle.std.specs.List.{flat_map}
 use Rattle.std.proofs.lemmas.Bool.{and_parts, and_from, eq-eqb, ltb-true, lt-ltb}
 use Rattle.ale_declared.specs.Lists.{Has, every}
 use Rattle.ale_declared.specs.Declarations.{Declared}
-use Rattle.ale_signature.specs.Hierarchy.{IsLawful}
-use Rattle.ale_signature.specs.Order.{hierarchy}
+use Rattle.ale_hierarchy.specs.Hierarchy.{IsLawful}
+use Rattle.ale_hierarchy.specs.Order.{hierarchy}
 use Rattle.ale_graph.specs.Structures.{Structure, IsStructure, count, node_at, value_in, type_of}
 use Rattle.ale_graph.proofs.Lists.{every_from}
 use Rattle.ale_print.specs.declared.line.Shown.{Shown}

@@ -3,7 +3,7 @@ use Rattle.std.proofs.Common.{◌≡◌, ℕ, ◌<◌, Bool, true, false, eqb, l
 use Rattle.std.specs.Prelude.{if◌then◌else◌}
 use Rattle.std.proofs.lemmas.Bool.{and_parts, eq-eqb, eqb-true, ltb-true}
 use Rattle.ale_declared.specs.Lists.{Has, every}
-use Rattle.ale_signature.specs.Hierarchy.{Hierarchy}
+use Rattle.ale_hierarchy.specs.Hierarchy.{Hierarchy}
 use Rattle.ale_graph.specs.Structures.{Structure, IsStructure, count, node_at, type_of, value_in, is_node, is_rising, is_formed}
 use Rattle.ale_graph.proofs.Lists.{every_has}
 use Rattle.ale_graph.proofs.Structures.{get_has}

@@ -6,8 +6,8 @@ use Rattle.std.proofs.lemmas.Bool.{eq-eqb}
 use Rattle.ale_declared.specs.Lists.{Has}
 use Rattle.ale_declared.specs.Declarations.{Declared}
 use Rattle.ale_declared.specs.Names.{name_of}
-use Rattle.ale_signature.specs.Hierarchy.{IsLawful}
-use Rattle.ale_signature.specs.Order.{hierarchy}
+use Rattle.ale_hierarchy.specs.Hierarchy.{IsLawful}
+use Rattle.ale_hierarchy.specs.Order.{hierarchy}
 use Rattle.ale_declared.specs.Numbering.{AreDistinct}
 use Rattle.ale_declared.proofs.ListLemmas.{Has-map, map_has}
 use Rattle.ale_graph.specs.Structures.{Structure, IsStructure, count, type_of, is_formed}

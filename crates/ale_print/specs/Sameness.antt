@@ -3,8 +3,8 @@
 use Rattle.std.specs.Prelude.{◌≡◌, ◌⊎◌, ℕ, ◌<◌, ◌^◌, List, [], map, option_map, length}
 use Rattle.ale_declared.specs.Declarations.{Declared}
 use Rattle.ale_declared.specs.Lists.{Has}
-use Rattle.ale_signature.specs.Hierarchy.{IsLawful}
-use Rattle.ale_signature.specs.Order.{hierarchy}
+use Rattle.ale_hierarchy.specs.Hierarchy.{IsLawful}
+use Rattle.ale_hierarchy.specs.Order.{hierarchy}
 use Rattle.ale_declared.specs.Numbering.{AreDistinct}
 use Rattle.ale_graph.specs.Structures.{Structure, IsStructure, count, node_at, type_of}
 use Rattle.ale_morphism.specs.Visible.{Visible}

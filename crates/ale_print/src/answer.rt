@@ -1,7 +1,7 @@
 //! The text of a structure.
 ghost use Rattle.std.specs.Prelude.{◌≡◌, ◌<◌, ℕ, IfOk, OnOk, map, get_or, length, encode_utf8_all, string_bytes};
 ghost use Rattle.std.specs.Str.{chars};
-ghost use Rattle.ale_signature.specs.Order.{hierarchy};
+ghost use Rattle.ale_hierarchy.specs.Order.{hierarchy};
 ghost use Rattle.ale_graph.specs.Structures.{IsStructure, count};
 ghost use Rattle.ale_print.specs.Appending.{Appends};
 ghost use Rattle.ale_print.specs.Tagging.{tag_of};

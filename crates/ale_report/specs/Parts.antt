@@ -2,7 +2,7 @@
 use Rattle.std.specs.Prelude.{ℕ, suc, Bool, true, false, Some, List, [], ◌∷◌, ◌++◌, codes, length, encode_utf8_all}
 use Rattle.std.specs.Fmt.{decimal}
 use Rattle.ale_declared.specs.Declarations.{Declared}
-use Rattle.ale_signature.specs.Order.{hierarchy}
+use Rattle.ale_hierarchy.specs.Order.{hierarchy}
 use Rattle.ale_graph.specs.declared.closed.Closed.{Closed}
 use Rattle.ale_graph.specs.Structures.{Structure}
 use Rattle.ale_graph.specs.Closure.{node_of}

@@ -1,6 +1,6 @@
 -- The answers that can be printed.
 use Rattle.std.specs.Prelude.{◌<◌}
-use Rattle.ale_signature.specs.Hierarchy.{Hierarchy}
+use Rattle.ale_hierarchy.specs.Hierarchy.{Hierarchy}
 use Rattle.ale_graph.specs.Structures.{IsStructure, count}
 use Rattle.ale_graph.specs.Closure.{node_of}
 use Rattle.ale_logic.specs.declared.answer.Answer.{Answer}

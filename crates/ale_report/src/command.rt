@@ -2,7 +2,7 @@
 ghost use Rattle.std.specs.Prelude.{◌≡◌, ◌++◌, codes, OnOk, IfOk, length, string_bytes};
 ghost use Rattle.std.specs.Fmt.{decimal};
 ghost use Rattle.ale_declared.specs.Lists.{Has};
-ghost use Rattle.ale_signature.specs.Order.{hierarchy};
+ghost use Rattle.ale_hierarchy.specs.Order.{hierarchy};
 ghost use Rattle.ale_logic.specs.declared.answer.Answer.{Answer};
 ghost use Rattle.ale_logic.specs.Descriptions.{description, FitsDescription};
 ghost use Rattle.ale_logic.specs.Solutions.{IsAnswer};

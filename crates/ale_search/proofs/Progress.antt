@@ -2,7 +2,7 @@
 use Rattle.std.proofs.Common.{eqb, length, append-nil, add-zero, ◌≡◌, ℕ, zero, suc, ◌+◌, ◌-◌, ◌<◌, ◌≤◌, Bool, true, List, [], ◌∷◌, ◌++◌, inl, inr, refl, sym, ap, ◌∙◌, subst, arith, append_assoc}
 use Rattle.std.proofs.Math.Dec.{eqb-suc-zero}
 use Rattle.ale_declared.specs.Lists.{Has}
-use Rattle.ale_signature.specs.Hierarchy.{Hierarchy, IsLawful}
+use Rattle.ale_hierarchy.specs.Hierarchy.{Hierarchy, IsLawful}
 use Rattle.ale_graph.specs.Universal.{ClosureLaw}
 use Rattle.ale_graph.proofs.Lists.{has_either}
 use Rattle.ale_logic.specs.declared.answer.Answer.{Answer}

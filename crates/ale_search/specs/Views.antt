@@ -1,6 +1,6 @@
 -- What the states of the program stand for. A stack holds its first element last.
 use Rattle.std.specs.Prelude.{ℕ, List, [], ◌∷◌, map}
-use Rattle.ale_signature.specs.Hierarchy.{Hierarchy}
+use Rattle.ale_hierarchy.specs.Hierarchy.{Hierarchy}
 use Rattle.ale_logic.specs.Descriptions.{description, FitsPath, FitsDescription}
 use Rattle.ale_logic.specs.States as plain
 use Rattle.ale_logic.specs.Visits.{Visit, fails, answers, goes}

@@ -1,5 +1,5 @@
 ghost use Rattle.std.specs.Prelude.{◌≡◌, ◌<◌, IfOk, OnOk, [], ◌∷◌, ◌++◌};
-ghost use Rattle.ale_signature.specs.Order.{hierarchy};
+ghost use Rattle.ale_hierarchy.specs.Order.{hierarchy};
 ghost use Rattle.ale_logic.specs.Descriptions.{description, FitsDescription};
 ghost use Rattle.ale_logic.specs.States.{start};
 ghost use Rattle.ale_logic.specs.Visits.{search};

@@ -1,5 +1,5 @@
 ghost use Rattle.std.specs.Prelude.{◌≡◌, ◌<◌, IfOk, length};
-ghost use Rattle.ale_signature.specs.Order.{hierarchy};
+ghost use Rattle.ale_hierarchy.specs.Order.{hierarchy};
 ghost use Rattle.ale_logic.specs.Descriptions.{FitsPath};
 ghost use Rattle.ale_logic.specs.States.{bound};
 ghost use Rattle.ale_logic.specs.Visits.{stepping, leading, meeting, binding};
@@ -11,7 +11,7 @@ use ale_signature::{FeatId, Signature};
 use std::alloc::AllocError;
 
 /// The state in which the node is told to have the feature, and then its value is taken.
-#[tactic(auto, using(crate::proofs::Turned::turned_push), unfolding(ale_signature::specs::Order::hierarchy))]
+#[tactic(auto, using(crate::proofs::Turned::turned_push), unfolding(ale_hierarchy::specs::Order::hierarchy))]
 pub fn stepping<'a>(
     sig: &Signature,
     mut rest: Rest<'a>,

@@ -1,11 +1,11 @@
 ghost use Rattle.std.specs.Prelude.{◌≡◌, IfOk, slice_index_or, length, [], ◌∷◌};
-ghost use Rattle.ale_signature.specs.Order.{hierarchy};
+ghost use Rattle.ale_hierarchy.specs.Order.{hierarchy};
 ghost use Rattle.ale_graph.specs.Filling.{class_value};
 ghost use Rattle.ale_graph.specs.Closure.{class_of};
 ghost use Rattle.ale_logic.specs.Visits.{visit, kids};
 ghost use Rattle.ale_logic.specs.States.{IsState, holds, on, take};
 ghost use Rattle.ale_logic.specs.Descriptions.{description, FitsDescription};
-ghost use Rattle.ale_signature.specs.Hierarchy.{Hierarchy};
+ghost use Rattle.ale_hierarchy.specs.Hierarchy.{Hierarchy};
 ghost use Rattle.ale_search.specs.Views.{demand_of, item_of, agenda_of, state_of, states_of, visited_of, IsKnown, IsKnownDemand};
 
 use crate::choosing::choices;
@@ -65,7 +65,7 @@ fn only<'a>(alloc: Global, state: State<'a>) -> Result<Vec<State<'a>>, AllocErro
 }
 
 /// The states that come in place of one whose first item is a description at a node.
-#[tactic(auto, using(ale_logic::proofs::Terms::description_rules), unfolding(ale_signature::specs::Order::hierarchy))]
+#[tactic(auto, using(ale_logic::proofs::Terms::description_rules), unfolding(ale_hierarchy::specs::Order::hierarchy))]
 fn described<'a>(
     alloc: Global,
     sig: &Signature,

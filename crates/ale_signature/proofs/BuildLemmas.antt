@@ -5,18 +5,18 @@ use Rattle.std.specs.Option.{option_or}
 use Rattle.std.proofs.lemmas.Bool.{false_from_ne_true}
 use Rattle.ale_declared.specs.Declarations.{Declared}
 use Rattle.ale_declared.specs.Numbering.{IsWellNumbered}
-use Rattle.ale_signature.specs.Accepted.{IsAccepted}
-use Rattle.ale_signature.specs.Order.{hierarchy}
-use Rattle.ale_signature.specs.Hierarchy.{IsLawful}
-use Rattle.ale_signature.specs.Stages.{IsOrdered}
-use Rattle.ale_signature.specs.Faults.{accepts, limit_fault, cycle_fault, join_fault, intro_fault, clash_fault, filling_fault, fault_of}
-use Rattle.ale_signature.specs.Refusals.{RefusesFor}
-use Rattle.ale_signature.specs.declared.fault.Fault.{Fault}
-use Rattle.ale_signature.specs.declared.error.SigError.{SigError}
-use Rattle.ale_signature.specs.declared.error.SigError.TheVariants.{NoMemory}
-use Rattle.ale_signature.proofs.AnswerLemmas.{or_assoc, or_after, or_first}
-use Rattle.ale_signature.proofs.Acceptance.{accepts_to, accepts_from}
-use Rattle.ale_signature.proofs.FaultLemmas.{limit_clear, cycle_clear}
+use Rattle.ale_hierarchy.specs.Accepted.{IsAccepted}
+use Rattle.ale_hierarchy.specs.Order.{hierarchy}
+use Rattle.ale_hierarchy.specs.Hierarchy.{IsLawful}
+use Rattle.ale_hierarchy.specs.Stages.{IsOrdered}
+use Rattle.ale_hierarchy.specs.Faults.{accepts, limit_fault, cycle_fault, join_fault, intro_fault, clash_fault, filling_fault, fault_of}
+use Rattle.ale_hierarchy.specs.Refusals.{RefusesFor}
+use Rattle.ale_hierarchy.specs.declared.fault.Fault.{Fault}
+use Rattle.ale_hierarchy.specs.declared.error.SigError.{SigError}
+use Rattle.ale_hierarchy.specs.declared.error.SigError.TheVariants.{NoMemory}
+use Rattle.ale_hierarchy.proofs.AnswerLemmas.{or_assoc, or_after, or_first}
+use Rattle.ale_hierarchy.proofs.Acceptance.{accepts_to, accepts_from}
+use Rattle.ale_hierarchy.proofs.FaultLemmas.{limit_clear, cycle_clear}
 use Rattle.ale_signature.proofs.FaultOf.{accepted_where, finds_fault}
 use Rattle.ale_signature.proofs.LawLemmas.{lawful}
 

@@ -5,18 +5,18 @@ use Rattle.std.proofs.lemmas.Bool.{both_ways, false≢true, and_parts, and_from,
 use Rattle.ale_relation.specs.Has.{Has}
 use Rattle.ale_declared.specs.Lists.{upto, first, every}
 use Rattle.ale_declared.specs.Declarations.{Declared, declared}
-use Rattle.ale_signature.specs.Order.{Applies, Introduces, is_above, leads_through, join_of, join, restrictions, mentioning, approp, size_to, size}
-use Rattle.ale_signature.specs.Limits.{most_nodes}
-use Rattle.ale_signature.specs.Accepted.{IsAccepted, restriction_edges}
+use Rattle.ale_hierarchy.specs.Order.{Applies, Introduces, is_above, leads_through, join_of, join, restrictions, mentioning, approp, size_to, size}
+use Rattle.ale_hierarchy.specs.Limits.{most_nodes}
+use Rattle.ale_hierarchy.specs.Accepted.{IsAccepted, restriction_edges}
 use Rattle.ale_declared.specs.Numbering.{IsWellNumbered}
 use Rattle.ale_signature.specs.Laws.{SomeIsAccepted}
 use Rattle.ale_declared.specs.declared.decl.Mention.{Mention}
 use Rattle.ale_declared.specs.declared.decl.SigDecl.{SigDecl}
 use Rattle.ale_declared.specs.declared.decl.SigDecl.TheVariants.{Kind, Ext}
 use Rattle.ale_declared.proofs.ListLemmas.{upto_has, every_at}
-use Rattle.ale_signature.proofs.AppropLemmas.{Has-restrictions, first_introduces}
+use Rattle.ale_hierarchy.proofs.AppropLemmas.{Has-restrictions, first_introduces}
 use Rattle.ale_signature.proofs.SizeLemmas.{size_to-size}
-use Rattle.ale_signature.proofs.AcceptedLemmas.{HasNoCycle-from, HasJoins-from, HasRestrictions-from, EndsBelow-restriction_edges, ext_last-from}
+use Rattle.ale_hierarchy.proofs.AcceptedLemmas.{HasNoCycle-from, HasJoins-from, HasRestrictions-from, EndsBelow-restriction_edges, ext_last-from}
 
 -- the written declarations
 unfoldable pub written : List SigDecl

@@ -5,19 +5,19 @@ use Rattle.std.proofs.lemmas.Bool.{cases_Bool, both_ways, eqb-true, eq-eqb}
 use Rattle.ale_declared.specs.Lists.{first, every}
 use Rattle.ale_declared.specs.Declarations.{Declared}
 use Rattle.ale_declared.specs.Numbering.{IsWellNumbered}
-use Rattle.ale_signature.specs.Order.{is_above, mentioning}
-use Rattle.ale_signature.specs.Accepted.{IsAccepted}
-use Rattle.ale_signature.specs.Faults.{lacks_intro, clashes, is_too_large, tops, common_subtypes, mentioners, limit_fault, cycle_fault, join_fault, intro_fault, clash_fault, loop_fault, ext_fault, fill_fault, filling_fault, fault_of, no_join, two_intros}
-use Rattle.ale_signature.specs.Refusals.{IsFirst, IsFirstPair, AreFirstTwo, LacksJoin, IsMostGeneralCommon, LacksIntro, IsMostGeneralMention, IsTooLarge, KeepsLimits, IsAcyclic, IsJoined, IsIntroduced, IsRestricted, IsLoopless, IsExtLast, IsFault}
-use Rattle.ale_signature.specs.declared.fault.Fault.{Fault}
-use Rattle.ale_signature.specs.declared.fault.Fault.TheVariants.{TooManyTypes, TooManyFeatures, SubCycle, NoJoin, TwoIntros, ValueClash, Loop, ExtNotMaximal, FillTooLarge}
+use Rattle.ale_hierarchy.specs.Order.{is_above, mentioning}
+use Rattle.ale_hierarchy.specs.Accepted.{IsAccepted}
+use Rattle.ale_hierarchy.specs.Faults.{lacks_intro, clashes, is_too_large, tops, common_subtypes, mentioners, limit_fault, cycle_fault, join_fault, intro_fault, clash_fault, loop_fault, ext_fault, fill_fault, filling_fault, fault_of, no_join, two_intros}
+use Rattle.ale_hierarchy.specs.Refusals.{IsFirst, IsFirstPair, AreFirstTwo, LacksJoin, IsMostGeneralCommon, LacksIntro, IsMostGeneralMention, IsTooLarge, KeepsLimits, IsAcyclic, IsJoined, IsIntroduced, IsRestricted, IsLoopless, IsExtLast, IsFault}
+use Rattle.ale_hierarchy.specs.declared.fault.Fault.{Fault}
+use Rattle.ale_hierarchy.specs.declared.fault.Fault.TheVariants.{TooManyTypes, TooManyFeatures, SubCycle, NoJoin, TwoIntros, ValueClash, Loop, ExtNotMaximal, FillTooLarge}
 use Rattle.ale_signature.specs.Deciding.{FindsFault}
-use Rattle.ale_signature.proofs.AppropLemmas.{first_introduces}
-use Rattle.ale_signature.proofs.Acceptance.{there_from, size_test}
-use Rattle.ale_signature.proofs.AnswerLemmas.{or_after, or_first, or_found, or_nothing}
-use Rattle.ale_signature.proofs.FirstTwo.{AreFirstTwo-one}
-use Rattle.ale_signature.proofs.FaultTests.{refuting, intro_decides, clash_decides, Clashes_inside, fill_decides, HasJoins-lacking, HasRestrictions-tested}
-use Rattle.ale_signature.proofs.FaultLemmas.{limit_none, limit_clear, limit_types, limit_features, limit_some, cycle_none, cycle_clear, cycle_some, cycle_from, join_none_lacks, join_clear, join_tops, join_some, join_from_pair, intro_none, intro_clear, intro_tops, intro_some, intro_from, clash_none, clash_clear, clash_some, clash_from, loop_none, loop_clear, loop_some, loop_from, ext_none, ext_clear, ext_some, ext_from, fill_none, fill_clear, fill_some, fill_from}
+use Rattle.ale_hierarchy.proofs.AppropLemmas.{first_introduces}
+use Rattle.ale_hierarchy.proofs.Acceptance.{there_from, size_test}
+use Rattle.ale_hierarchy.proofs.AnswerLemmas.{or_after, or_first, or_found, or_nothing}
+use Rattle.ale_hierarchy.proofs.FirstTwo.{AreFirstTwo-one}
+use Rattle.ale_hierarchy.proofs.FaultTests.{refuting, intro_decides, clash_decides, Clashes_inside, fill_decides, HasJoins-lacking, HasRestrictions-tested}
+use Rattle.ale_hierarchy.proofs.FaultLemmas.{limit_none, limit_clear, limit_types, limit_features, limit_some, cycle_none, cycle_clear, cycle_some, cycle_from, join_none_lacks, join_clear, join_tops, join_some, join_from_pair, intro_none, intro_clear, intro_tops, intro_some, intro_from, clash_none, clash_clear, clash_some, clash_from, loop_none, loop_clear, loop_some, loop_from, ext_none, ext_clear, ext_some, ext_from, fill_none, fill_clear, fill_some, fill_from}
 
 -- ---- without a fault
 

@@ -2,14 +2,14 @@
 use Rattle.std.proofs.Common.{sym, ap, ◌∙◌, subst, ℕ, suc, ◌<◌, length}
 use Rattle.ale_relation.specs.Paths.{here}
 use Rattle.ale_declared.specs.Declarations.{Declared}
-use Rattle.ale_signature.specs.Hierarchy.{IsLawful, size_at}
-use Rattle.ale_signature.specs.Order.{Introduces, approp, intro, size, if_there, all_features, hierarchy}
-use Rattle.ale_signature.specs.Accepted.{IsAccepted}
+use Rattle.ale_hierarchy.specs.Hierarchy.{IsLawful, size_at}
+use Rattle.ale_hierarchy.specs.Order.{Introduces, approp, intro, size, if_there, all_features, hierarchy}
+use Rattle.ale_hierarchy.specs.Accepted.{IsAccepted}
 use Rattle.ale_declared.specs.Numbering.{IsWellNumbered}
 use Rattle.ale_declared.proofs.ListLemmas.{is_among_has, sum_over_same}
-use Rattle.ale_signature.proofs.OrderLemmas.{IsAbove-trans, IsAbove_inside, is_above_to, is_above_from, above_all, rank-less}
-use Rattle.ale_signature.proofs.JoinLemmas.{join_to, join_there}
-use Rattle.ale_signature.proofs.AppropLemmas.{IsApprop_inside, approp_to, approp_there, approp-along, intro_is, Introduces-above, Introduces_inside, Applies-introduces}
+use Rattle.ale_hierarchy.proofs.OrderLemmas.{IsAbove-trans, IsAbove_inside, is_above_to, is_above_from, above_all, rank-less}
+use Rattle.ale_hierarchy.proofs.JoinLemmas.{join_to, join_there}
+use Rattle.ale_hierarchy.proofs.AppropLemmas.{IsApprop_inside, approp_to, approp_there, approp-along, intro_is, Introduces-above, Introduces_inside, Applies-introduces}
 use Rattle.ale_signature.proofs.SizeLemmas.{size_is, size_at-is}
 
 -- `intro` introduces the feature

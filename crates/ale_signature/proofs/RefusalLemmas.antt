@@ -3,12 +3,12 @@ use Rattle.std.proofs.Common.{◌≡◌, sym, ap, ◌∙◌, subst, refl, Option
 use Rattle.std.specs.Prelude.{Result, Ok, Err, IfOk, IfErr, IsErrOf}
 use Rattle.ale_declared.specs.Declarations.{Declared}
 use Rattle.ale_declared.specs.Numbering.{IsWellNumbered}
-use Rattle.ale_signature.specs.Faults.{fault_of}
-use Rattle.ale_signature.specs.Refusals.{IsFault, IsRefusal, RefusesFor, RefusesWhere, named_fault}
-use Rattle.ale_signature.specs.declared.fault.Fault.{Fault}
-use Rattle.ale_signature.specs.declared.fault.Fault.TheVariants.{TooManyTypes, TooManyFeatures, SubCycle, NoJoin, TwoIntros, ValueClash, Loop, ExtNotMaximal, FillTooLarge}
-use Rattle.ale_signature.specs.declared.error.SigError.{SigError}
-use Rattle.ale_signature.specs.declared.error.SigError.TheVariants as refusal
+use Rattle.ale_hierarchy.specs.Faults.{fault_of}
+use Rattle.ale_hierarchy.specs.Refusals.{IsFault, IsRefusal, RefusesFor, RefusesWhere, named_fault}
+use Rattle.ale_hierarchy.specs.declared.fault.Fault.{Fault}
+use Rattle.ale_hierarchy.specs.declared.fault.Fault.TheVariants.{TooManyTypes, TooManyFeatures, SubCycle, NoJoin, TwoIntros, ValueClash, Loop, ExtNotMaximal, FillTooLarge}
+use Rattle.ale_hierarchy.specs.declared.error.SigError.{SigError}
+use Rattle.ale_hierarchy.specs.declared.error.SigError.TheVariants as refusal
 use Rattle.ale_signature.proofs.FaultOf.{found, finding}
 
 refusal_of : (d : Declared) (f : Fault) → IsFault d f → IsRefusal d (named_fault d f)

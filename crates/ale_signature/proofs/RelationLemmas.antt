@@ -4,12 +4,12 @@ use Rattle.std.specs.Prelude.{◌↔◌}
 use Rattle.ale_declared.specs.Declarations.{Declared}
 use Rattle.ale_declared.specs.Numbering.{IsWellNumbered}
 use Rattle.ale_declared.specs.declared.decl.Mention.{Mention}
-use Rattle.ale_signature.specs.Order.{IsAbove, IsJoin, Applies, IsRestriction, Introduces, join, approp, intro}
-use Rattle.ale_signature.specs.Accepted.{IsAccepted}
+use Rattle.ale_hierarchy.specs.Order.{IsAbove, IsJoin, Applies, IsRestriction, Introduces, join, approp, intro}
+use Rattle.ale_hierarchy.specs.Accepted.{IsAccepted}
 use Rattle.ale_signature.specs.Laws.{TellsRelations}
-use Rattle.ale_signature.proofs.OrderLemmas.{IsAbove_inside, is_above_to, is_above_from}
-use Rattle.ale_signature.proofs.JoinLemmas.{join_to, join_from, join_none, none_from}
-use Rattle.ale_signature.proofs.AppropLemmas.{approp_to, approp_from, approp_nowhere, intro_is}
+use Rattle.ale_hierarchy.proofs.OrderLemmas.{IsAbove_inside, is_above_to, is_above_from}
+use Rattle.ale_hierarchy.proofs.JoinLemmas.{join_to, join_from, join_none, none_from}
+use Rattle.ale_hierarchy.proofs.AppropLemmas.{approp_to, approp_from, approp_nowhere, intro_is}
 use Rattle.ale_signature.proofs.LawLemmas.{Introduces-intro}
 
 join_is : (d : Declared) (a b j : ℕ) → IsWellNumbered d → IsAccepted d → a < length d.types → (join d a b ≡ Some j) ↔ IsJoin d a b j

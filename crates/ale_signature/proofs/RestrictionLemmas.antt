@@ -7,15 +7,15 @@ use Rattle.ale_relation.specs.Has.{Has}
 use Rattle.ale_declared.specs.Lists.{first, every}
 use Rattle.ale_declared.specs.Declarations.{Declared}
 use Rattle.ale_declared.specs.declared.decl.Mention.{Mention}
-use Rattle.ale_signature.specs.Order.{IsAbove, IsJoin, Applies, Introduces, is_above, join, join_of, join_of_some, restrictions, approp, mentioning, intro}
+use Rattle.ale_hierarchy.specs.Order.{IsAbove, IsJoin, Applies, Introduces, is_above, join, join_of, join_of_some, restrictions, approp, mentioning, intro}
 use Rattle.ale_declared.specs.Numbering.{IsWellNumbered}
-use Rattle.ale_signature.specs.Stages.{IsOrdered, HasLeast, are_below, are_within, mentions_of, restricted, narrowed, HaveNoJoin, HasRestriction}
+use Rattle.ale_hierarchy.specs.Stages.{IsOrdered, HasLeast, are_below, are_within, mentions_of, restricted, narrowed, HaveNoJoin, HasRestriction}
 use Rattle.ale_declared.proofs.ListLemmas.{map_has, filter_has}
-use Rattle.ale_signature.proofs.LoopLemmas.{are_below-from}
-use Rattle.ale_signature.proofs.StageLemmas.{are_within-at}
-use Rattle.ale_signature.proofs.OrderLemmas.{IsAbove-trans}
-use Rattle.ale_signature.proofs.JoinLemmas.{IsCommon, IsJoinOf, none_from, join_to, join_of_to, join_of_from, join_of_none, join_of-one}
-use Rattle.ale_signature.proofs.AppropLemmas.{HasRestrictions, restrictions_has, Has-restrictions, IsJoinOf-restrictions, intro_is, first_introduces}
+use Rattle.ale_hierarchy.proofs.LoopLemmas.{are_below-from}
+use Rattle.ale_hierarchy.proofs.StageLemmas.{are_within-at}
+use Rattle.ale_hierarchy.proofs.OrderLemmas.{IsAbove-trans}
+use Rattle.ale_hierarchy.proofs.JoinLemmas.{IsCommon, IsJoinOf, none_from, join_to, join_of_to, join_of_from, join_of_none, join_of-one}
+use Rattle.ale_hierarchy.proofs.AppropLemmas.{HasRestrictions, restrictions_has, Has-restrictions, IsJoinOf-restrictions, intro_is, first_introduces}
 
 -- the types at which mentions are
 pub ats-below : (n : ℕ) (ms : List Mention) → are_within n ms ≡ true → are_below n (map (λ (m : Mention). m.at) ms) ≡ true

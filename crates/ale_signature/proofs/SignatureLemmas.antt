@@ -4,15 +4,15 @@ use Rattle.std.specs.Prelude.{IfSome, IfNone, ◌↔◌}
 use Rattle.ale_relation.specs.Has.{Has}
 use Rattle.ale_declared.specs.Declarations.{Declared}
 use Rattle.ale_declared.specs.declared.decl.Mention.{Mention}
-use Rattle.ale_signature.specs.Order.{IsAbove, IsJoin, Applies, IsRestriction, join, approp, is_ext}
-use Rattle.ale_signature.specs.Accepted.{IsAccepted}
+use Rattle.ale_hierarchy.specs.Order.{IsAbove, IsJoin, Applies, IsRestriction, join, approp, is_ext}
+use Rattle.ale_hierarchy.specs.Accepted.{IsAccepted}
 use Rattle.ale_declared.specs.Numbering.{IsWellNumbered}
-use Rattle.ale_signature.specs.Stages.{tabulated}
+use Rattle.ale_hierarchy.specs.Stages.{tabulated}
 use Rattle.ale_declared.proofs.ListLemmas.{is_among_has, is_among_from}
-use Rattle.ale_signature.proofs.OrderLemmas.{IsAbove_inside}
-use Rattle.ale_signature.proofs.JoinLemmas.{join_to, join_none}
-use Rattle.ale_signature.proofs.AppropLemmas.{approp_to, approp_nowhere}
-use Rattle.ale_signature.proofs.TabulatedLemmas.{length-tabulated, get_or-tabulated}
+use Rattle.ale_hierarchy.proofs.OrderLemmas.{IsAbove_inside}
+use Rattle.ale_hierarchy.proofs.JoinLemmas.{join_to, join_none}
+use Rattle.ale_hierarchy.proofs.AppropLemmas.{approp_to, approp_nowhere}
+use Rattle.ale_hierarchy.proofs.TabulatedLemmas.{length-tabulated, get_or-tabulated}
 
 -- the least common subtype of two types, and that there is none
 pub least_found : (d : Declared) (a b : ℕ) (r : Option ℕ) → IsWellNumbered d → r ≡ join d a b → IfSome r (λ j. IsJoin d a b j)

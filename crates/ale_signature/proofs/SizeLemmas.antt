@@ -2,9 +2,9 @@
 use Rattle.std.proofs.Common.{◌≡◌, sym, ap, ◌<◌, refl, ℕ, zero, suc, ◌≤◌, Option, Some, None, arith, subst, length}
 use Rattle.ale_declared.specs.Lists.{sum_over}
 use Rattle.ale_declared.specs.Declarations.{Declared}
-use Rattle.ale_signature.specs.Hierarchy.{size_at}
-use Rattle.ale_signature.specs.Order.{all_features, approp, if_there, size_to, size, hierarchy}
-use Rattle.ale_signature.specs.Limits.{most_nodes}
+use Rattle.ale_hierarchy.specs.Hierarchy.{size_at}
+use Rattle.ale_hierarchy.specs.Order.{all_features, approp, if_there, size_to, size, hierarchy}
+use Rattle.ale_hierarchy.specs.Limits.{most_nodes}
 use Rattle.ale_declared.proofs.ListLemmas.{le-sum_over, sum_over_same, sum_over-le, upto_has}
 
 -- measures that agree up to n agree on what is there

@@ -8,14 +8,14 @@ use Rattle.ale_relation.specs.Has.{Has}
 use Rattle.ale_relation.specs.Paths.{Reaches, here, along, Leads}
 use Rattle.ale_declared.specs.Lists.{sum_over}
 use Rattle.ale_declared.specs.Declarations.{Declared}
-use Rattle.ale_signature.specs.Order.{all_features, features, approp, if_there, size}
-use Rattle.ale_signature.specs.Limits.{most_nodes}
-use Rattle.ale_signature.specs.Accepted.{restriction_edges}
+use Rattle.ale_hierarchy.specs.Order.{all_features, features, approp, if_there, size}
+use Rattle.ale_hierarchy.specs.Limits.{most_nodes}
+use Rattle.ale_hierarchy.specs.Accepted.{restriction_edges}
 use Rattle.ale_declared.specs.Numbering.{IsWellNumbered}
-use Rattle.ale_signature.specs.Stages.{IsOrdered, TellsSizes, KnowsTo, IsUnknown}
+use Rattle.ale_hierarchy.specs.Stages.{IsOrdered, TellsSizes, KnowsTo, IsUnknown}
 use Rattle.ale_declared.proofs.ListLemmas.{upto_below, filter_has}
-use Rattle.ale_signature.proofs.AppropLemmas.{IsApprop_inside, approp_to}
-use Rattle.ale_signature.proofs.AcceptedLemmas.{restriction_edges_has}
+use Rattle.ale_hierarchy.proofs.AppropLemmas.{IsApprop_inside, approp_to}
+use Rattle.ale_hierarchy.proofs.AcceptedLemmas.{restriction_edges_has}
 use Rattle.ale_signature.proofs.SizeLemmas.{size_is, size_from, size-less}
 
 -- a sum over a filter, where the others count nothing

@@ -3,10 +3,10 @@
 use Rattle.std.specs.Prelude.{◌≡◌, ◌↔◌, true, Some, None, List}
 use Rattle.ale_declared.specs.Declarations.{Declared, declared}
 use Rattle.ale_declared.specs.declared.decl.SigDecl.{SigDecl}
-use Rattle.ale_signature.specs.Accepted.{IsAccepted}
-use Rattle.ale_signature.specs.Faults.{accepts, fault_of}
-use Rattle.ale_signature.specs.Refusals.{IsFault}
-use Rattle.ale_signature.specs.declared.fault.Fault.{Fault}
+use Rattle.ale_hierarchy.specs.Accepted.{IsAccepted}
+use Rattle.ale_hierarchy.specs.Faults.{accepts, fault_of}
+use Rattle.ale_hierarchy.specs.Refusals.{IsFault}
+use Rattle.ale_hierarchy.specs.declared.fault.Fault.{Fault}
 
 -- what is declared passes all tests exactly where it is accepted
 abbrev pub AcceptsDecides : Type 0

@@ -5,10 +5,10 @@ use Rattle.std.specs.Prelude.{◌≡◌, ◌↔◌, ℕ, ◌<◌, true, Some, No
 use Rattle.ale_declared.specs.Declarations.{Declared, declared}
 use Rattle.ale_declared.specs.declared.decl.Mention.{Mention}
 use Rattle.ale_declared.specs.declared.decl.SigDecl.{SigDecl}
-use Rattle.ale_signature.specs.Order.{IsAbove, IsJoin, Applies, IsRestriction, Introduces, is_above, join, approp, intro, hierarchy}
-use Rattle.ale_signature.specs.Accepted.{IsAccepted}
+use Rattle.ale_hierarchy.specs.Order.{IsAbove, IsJoin, Applies, IsRestriction, Introduces, is_above, join, approp, intro, hierarchy}
+use Rattle.ale_hierarchy.specs.Accepted.{IsAccepted}
 use Rattle.ale_declared.specs.Numbering.{IsWellNumbered}
-use Rattle.ale_signature.specs.Hierarchy.{IsLawful}
+use Rattle.ale_hierarchy.specs.Hierarchy.{IsLawful}
 
 -- each accepted signature obeys the laws of a hierarchy
 abbrev pub SignatureLaw : Type 0

@@ -1,9 +1,2 @@
-pub mod Accepted
 pub mod Deciding
-pub mod Faults
-pub mod Hierarchy
 pub mod Laws
-pub mod Limits
-pub mod Order
-pub mod Refusals
-pub mod Stages

@@ -1,20 +1,15 @@
 //! Which type introduces each feature, and the restriction on each feature at each type.
 ghost use Rattle.std.specs.Prelude.{◌≡◌, ℕ, ◌<◌, ◌≢◌, IfOk, IfErr, IfSome, OnOk, IsErrOf, IsTrue, Some, None, length, map};
 ghost use Rattle.ale_relation.specs.Has.{Has};
-ghost use Rattle.ale_signature.specs.Order.{Introduces, intro, approp, features, join_of_some};
-ghost use Rattle.ale_signature.specs.Faults.{when, lacks_intro, two_intros, intro_fault, clash_fault};
-ghost use Rattle.ale_signature.specs.Refusals.{RefusesFor};
-ghost use Rattle.ale_signature.specs.Stages.{IsOrdered, tabulated, are_below, HasLeast, join_rows, mentions_of, are_within, restricted, HaveNoJoin, HasRestriction, narrowed, restriction_row, restriction_rows, feature_lists};
+ghost use Rattle.ale_hierarchy.specs.Order.{Introduces, intro, approp, features, join_of_some};
+ghost use Rattle.ale_hierarchy.specs.Faults.{when, lacks_intro, two_intros, intro_fault, clash_fault};
+ghost use Rattle.ale_hierarchy.specs.Refusals.{RefusesFor};
+ghost use Rattle.ale_hierarchy.specs.Stages.{IsOrdered, tabulated, are_below, HasLeast, join_rows, mentions_of, are_within, restricted, HaveNoJoin, HasRestriction, narrowed, restriction_row, restriction_rows, feature_lists};
 
-use crate::error::SigError;
-use crate::ids::{FeatId, TypeId};
-use crate::joins::{entry, join_at};
-use crate::naming::refusal;
-use crate::order::Order;
-use crate::stop::Stop;
-use crate::tops::most_general;
 use crate::witnesses::{two_intros, value_clash};
 use ale_declared::Mention;
+use ale_hierarchy::joins::{entry, join_at};
+use ale_hierarchy::{FeatId, Order, SigError, Stop, TypeId, most_general, refusal};
 use ale_text::Row;
 use std::alloc::{AllocError, Global};
 

@@ -1,16 +1,13 @@
 ghost use Rattle.std.specs.Prelude.{◌≡◌, ◌≢◌, true, false, ◌<◌, ◌↔◌, ℕ, IfOk, IfErr, IsTrue, IfSome, IfNone, List, length, map, Some, None, slice_get, encode_utf8_all};
 ghost use Rattle.std.specs.Str.{chars};
 ghost use Rattle.ale_relation.specs.Has.{Has};
-ghost use Rattle.ale_signature.specs.Hierarchy.{IsLawful};
+ghost use Rattle.ale_hierarchy.specs.Hierarchy.{IsLawful};
 
-use crate::error::SigError;
-use crate::ids::{FeatId, TypeId};
-use crate::joins::{join_at, joins};
-use crate::last::ext_flags;
-use crate::order::Order;
 use crate::restrictions::{feature_lists, intros, restriction_at, restrictions};
 use crate::sizes::check_fills;
 use ale_declared::{Outline, SigDecl};
+use ale_hierarchy::joins::{join_at, joins};
+use ale_hierarchy::{FeatId, Order, SigError, TypeId, ext_flags};
 use ale_text::Row;
 use std::alloc::Global;
 use std::marker::Model;
@@ -33,7 +30,7 @@ pub struct Signature {
 
 impl Model for Signature {
     ghost use Rattle.ale_declared.specs.Declarations.{Declared};
-    ghost use Rattle.ale_signature.specs.Stages.{IsTabled};
+    ghost use Rattle.ale_hierarchy.specs.Stages.{IsTabled};
 
     ghost Value = { Declared };
 
@@ -44,11 +41,11 @@ impl Model for Signature {
 
 impl Signature {
     ghost use Rattle.ale_declared.specs.Declarations.{declared};
-    ghost use Rattle.ale_signature.specs.Order.{IsAbove, IsJoin, Introduces, IsRestriction, Applies, is_above, join, approp, intro, features, is_ext, hierarchy};
-    ghost use Rattle.ale_signature.specs.Accepted.{IsAccepted};
-    ghost use Rattle.ale_signature.specs.Faults.{accepts, fault_of};
-    ghost use Rattle.ale_signature.specs.Refusals.{IsFault, RefusesFor, RefusesWhere};
-    ghost use Rattle.ale_signature.specs.declared.fault.Fault.TheVariants.{TooManyTypes, TooManyFeatures, SubCycle, NoJoin, TwoIntros, ValueClash, Loop, ExtNotMaximal, FillTooLarge};
+    ghost use Rattle.ale_hierarchy.specs.Order.{IsAbove, IsJoin, Introduces, IsRestriction, Applies, is_above, join, approp, intro, features, is_ext, hierarchy};
+    ghost use Rattle.ale_hierarchy.specs.Accepted.{IsAccepted};
+    ghost use Rattle.ale_hierarchy.specs.Faults.{accepts, fault_of};
+    ghost use Rattle.ale_hierarchy.specs.Refusals.{IsFault, RefusesFor, RefusesWhere};
+    ghost use Rattle.ale_hierarchy.specs.declared.fault.Fault.TheVariants.{TooManyTypes, TooManyFeatures, SubCycle, NoJoin, TwoIntros, ValueClash, Loop, ExtNotMaximal, FillTooLarge};
     ghost use Rattle.ale_declared.specs.Names.{named, name_of};
     ghost use Rattle.ale_declared.specs.declared.decl.Mention.{Mention};
 

@@ -3,20 +3,15 @@ ghost use Rattle.std.specs.Prelude.{◌≡◌, ℕ, ◌+◌, ◌<◌, ◌≤◌,
 ghost use Rattle.std.specs.List.{filter_map};
 ghost use Rattle.std.specs.Option.{option_map};
 ghost use Rattle.ale_declared.specs.Lists.{upto, first};
-ghost use Rattle.ale_signature.specs.Order.{approp, features, size, if_there, all_features};
-ghost use Rattle.ale_signature.specs.Limits.{most_nodes};
-ghost use Rattle.ale_signature.specs.Accepted.{restriction_edges};
-ghost use Rattle.ale_signature.specs.Faults.{loop_fault, fill_fault, filling_fault};
-ghost use Rattle.ale_signature.specs.Refusals.{RefusesFor};
-ghost use Rattle.ale_signature.specs.Stages.{restriction_rows, feature_lists, TellsSizes, KnowsTo, IsUnknown};
+ghost use Rattle.ale_hierarchy.specs.Order.{approp, features, size, if_there, all_features};
+ghost use Rattle.ale_hierarchy.specs.Limits.{most_nodes};
+ghost use Rattle.ale_hierarchy.specs.Accepted.{restriction_edges};
+ghost use Rattle.ale_hierarchy.specs.Faults.{loop_fault, fill_fault, filling_fault};
+ghost use Rattle.ale_hierarchy.specs.Refusals.{RefusesFor};
+ghost use Rattle.ale_hierarchy.specs.Stages.{restriction_rows, feature_lists, TellsSizes, KnowsTo, IsUnknown};
 
-use crate::error::SigError;
-use crate::fault::Fault;
-use crate::ids::{FeatId, TypeId};
-use crate::last::check_ext;
-use crate::naming::refusal;
-use crate::order::{Order, first_cycle};
 use crate::restrictions::restriction_at;
+use ale_hierarchy::{Fault, FeatId, Order, SigError, TypeId, check_ext, first_cycle, refusal};
 use ale_relation::reachability;
 use ale_text::Row;
 use std::alloc::{AllocError, Global};

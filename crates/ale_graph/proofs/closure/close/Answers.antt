@@ -1,6 +1,6 @@
 use Rattle.std.proofs.Common.{◌≡◌, true, false, Some, List, ℕ, sym, ap, ◌∙◌}
 use Rattle.ale_declared.specs.Lists.{every}
-use Rattle.ale_signature.specs.Order.{hierarchy}
+use Rattle.ale_hierarchy.specs.Order.{hierarchy}
 use Rattle.ale_graph.specs.declared.closed.Closed.{Closed}
 use Rattle.ale_graph.specs.Closure.{is_kept_apart}
 use Rattle.ale_graph.specs.Drafts.{class_in}

@@ -1,5 +1,5 @@
 use Rattle.std.proofs.Common.{ℕ, suc, ◌+◌, ◌-◌, ◌<◌, ◌≤◌, length, subst, sym, ◌∙◌, arith, rules}
-use Rattle.ale_signature.specs.Order.{hierarchy}
+use Rattle.ale_hierarchy.specs.Order.{hierarchy}
 use Rattle.ale_graph.specs.Working.{Working, lists_of}
 use Rattle.ale_graph.proofs.FillSteps.{IsFilling, class_fills, filling_ends}
 use Rattle.ale_graph.proofs.fill.fill.Goals as goal

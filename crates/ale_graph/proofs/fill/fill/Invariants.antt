@@ -1,5 +1,5 @@
 use Rattle.std.proofs.Common.{◌≡◌, ℕ, ◌+◌, ◌-◌, ◌<◌, ◌≤◌, None, length}
-use Rattle.ale_signature.specs.Order.{hierarchy}
+use Rattle.ale_hierarchy.specs.Order.{hierarchy}
 use Rattle.ale_graph.specs.Filling.{gap, debt, fill}
 use Rattle.ale_graph.specs.Working.{IsDraft, lists_of, filled_of}
 use Rattle.ale_graph.proofs.fill.fill.Given as goal

@@ -1,6 +1,6 @@
 use Rattle.std.proofs.Common.{List, ℕ, subst}
 use Rattle.ale_declared.specs.Lists.{Has}
-use Rattle.ale_signature.specs.Order.{hierarchy}
+use Rattle.ale_hierarchy.specs.Order.{hierarchy}
 use Rattle.ale_graph.proofs.Vectors.{read_has}
 use Rattle.ale_graph.proofs.FillSteps.{feature_below}
 use Rattle.ale_graph.proofs.fill.fill_class.Goals as goal

@@ -1,5 +1,5 @@
 use Rattle.std.proofs.Common.{◌≡◌, drop}
-use Rattle.ale_signature.specs.Order.{hierarchy}
+use Rattle.ale_hierarchy.specs.Order.{hierarchy}
 use Rattle.ale_graph.specs.Drafts.{type_in}
 use Rattle.ale_graph.specs.Raising.{AllInside}
 use Rattle.ale_graph.specs.Working.{lists_of, fill_features, features_of}

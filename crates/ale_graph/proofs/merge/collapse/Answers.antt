@@ -1,5 +1,5 @@
 use Rattle.std.proofs.Common.{sym, ◌∙◌, subst}
-use Rattle.ale_signature.specs.Order.{hierarchy}
+use Rattle.ale_hierarchy.specs.Order.{hierarchy}
 use Rattle.ale_graph.specs.Working.{Working, lists_of, filled_of}
 use Rattle.ale_graph.proofs.MergeSteps.{IsMerged, merge_steps, collapse_ends}
 use Rattle.ale_graph.proofs.merge.collapse.Goals as goal

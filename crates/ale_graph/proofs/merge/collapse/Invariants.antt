@@ -1,5 +1,5 @@
 use Rattle.std.proofs.Common.{◌≡◌, length}
-use Rattle.ale_signature.specs.Order.{hierarchy}
+use Rattle.ale_hierarchy.specs.Order.{hierarchy}
 use Rattle.ale_graph.specs.Classes.{class_sum}
 use Rattle.ale_graph.specs.Collapsing.{collapse}
 use Rattle.ale_graph.specs.Drafts.{class_in}

@@ -1,5 +1,5 @@
 use Rattle.std.proofs.Common.{ℕ, ◌≤◌, ◌<◌, List, sym, ap, ◌∙◌, length, arith, rules}
-use Rattle.ale_signature.specs.Order.{hierarchy}
+use Rattle.ale_hierarchy.specs.Order.{hierarchy}
 use Rattle.ale_graph.specs.Drafts.{class_in, type_in}
 use Rattle.ale_graph.specs.Working.{lists_of}
 use Rattle.ale_graph.proofs.MergeSteps.{none_more, row_some, row_none, row_other, row_plain}

@@ -1,5 +1,5 @@
 use Rattle.std.proofs.Common.{◌≡◌, ℕ, ◌<◌, None}
-use Rattle.ale_signature.specs.Order.{hierarchy}
+use Rattle.ale_hierarchy.specs.Order.{hierarchy}
 use Rattle.ale_graph.specs.Collapsing.{double}
 use Rattle.ale_graph.specs.Working.{lists_of, filled_of}
 use Rattle.ale_graph.proofs.merge.double_of.Given as goal

@@ -1,5 +1,5 @@
 use Rattle.std.proofs.Common.{◌≤◌, ◌<◌, sym, length, rules}
-use Rattle.ale_signature.specs.Order.{hierarchy}
+use Rattle.ale_hierarchy.specs.Order.{hierarchy}
 use Rattle.ale_graph.specs.Working.{lists_of}
 use Rattle.ale_graph.proofs.MergeSteps.{rows_some, rows_none}
 use Rattle.ale_graph.proofs.merge.first_double.Goals as goal

@@ -1,6 +1,6 @@
 use Rattle.std.proofs.Common.{◌≡◌, ℕ, ◌<◌, None, length}
 use Rattle.ale_declared.specs.Lists.{upto}
-use Rattle.ale_signature.specs.Order.{hierarchy}
+use Rattle.ale_hierarchy.specs.Order.{hierarchy}
 use Rattle.ale_graph.specs.Settled.{first_some}
 use Rattle.ale_graph.specs.Collapsing.{double}
 use Rattle.ale_graph.specs.Working.{lists_of, filled_of}

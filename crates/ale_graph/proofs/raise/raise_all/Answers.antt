@@ -1,5 +1,5 @@
 use Rattle.std.proofs.Common.{Some, None, false, length, subst, sym, refl}
-use Rattle.ale_signature.specs.Order.{hierarchy}
+use Rattle.ale_hierarchy.specs.Order.{hierarchy}
 use Rattle.ale_graph.specs.Drafts.{class_in}
 use Rattle.ale_graph.proofs.RaiseSteps.{IsLifting, lifting_starts, pass_lifts, pass_done, types_missing}
 use Rattle.ale_graph.proofs.raise.raise_all.Goals as goal

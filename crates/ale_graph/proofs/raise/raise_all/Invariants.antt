@@ -1,5 +1,5 @@
 use Rattle.std.proofs.Common.{Some, false, length}
-use Rattle.ale_signature.specs.Order.{hierarchy}
+use Rattle.ale_hierarchy.specs.Order.{hierarchy}
 use Rattle.ale_graph.specs.Types.{types_left}
 use Rattle.ale_graph.specs.Drafts.{class_in, type_in}
 use Rattle.ale_graph.proofs.RaiseSteps.{IsLifting}

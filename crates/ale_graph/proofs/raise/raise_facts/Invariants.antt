@@ -1,5 +1,5 @@
 use Rattle.std.proofs.Common.{◌≡◌, false, drop}
-use Rattle.ale_signature.specs.Order.{hierarchy}
+use Rattle.ale_hierarchy.specs.Order.{hierarchy}
 use Rattle.ale_graph.specs.Drafts.{class_in}
 use Rattle.ale_graph.specs.Raising.{AllInside, raise_facts}
 use Rattle.ale_graph.proofs.raise.raise_facts.Given as goal

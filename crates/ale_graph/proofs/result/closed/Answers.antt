@@ -1,5 +1,5 @@
 use Rattle.std.proofs.Common.{◌≡◌, length, rules, ◌∙◌}
-use Rattle.ale_signature.specs.Order.{hierarchy}
+use Rattle.ale_hierarchy.specs.Order.{hierarchy}
 use Rattle.ale_graph.specs.Working.{lists_of}
 use Rattle.ale_graph.proofs.ResultSteps.{closed_is}
 use Rattle.ale_graph.proofs.result.closed.Goals as goal

@@ -1,5 +1,5 @@
 use Rattle.std.proofs.Common.{IsTrue, subst, sym, ◌∙◌}
-use Rattle.ale_signature.specs.Order.{hierarchy}
+use Rattle.ale_hierarchy.specs.Order.{hierarchy}
 use Rattle.ale_graph.specs.Structures.{Structure, is_formed}
 use Rattle.ale_graph.specs.Working.{lists_of}
 use Rattle.ale_graph.proofs.ResultSteps.{graph_made}

@@ -1,4 +1,4 @@
-use Rattle.ale_signature.specs.Order.{hierarchy}
+use Rattle.ale_hierarchy.specs.Order.{hierarchy}
 use Rattle.ale_morphism.specs.MorphismTest.{image}
 use Rattle.ale_morphism.proofs.MorphismSteps.{test_decides}
 use Rattle.ale_morphism.proofs.morphism.is_morphism.Goals as goal

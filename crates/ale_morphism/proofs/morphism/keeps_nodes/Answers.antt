@@ -1,6 +1,6 @@
 use Rattle.std.proofs.Common.{◌<◌, sym, ◌∙◌, rules}
 use Rattle.ale_declared.specs.Lists.{upto}
-use Rattle.ale_signature.specs.Order.{hierarchy}
+use Rattle.ale_hierarchy.specs.Order.{hierarchy}
 use Rattle.ale_graph.specs.Structures.{count}
 use Rattle.ale_morphism.specs.MorphismTest.{image, keeps_node}
 use Rattle.ale_graph.proofs.Lists.{has_upto}

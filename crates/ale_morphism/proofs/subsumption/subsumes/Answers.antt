@@ -1,5 +1,5 @@
 use Rattle.std.proofs.Common.{◌≡◌, rules}
-use Rattle.ale_signature.specs.Order.{hierarchy}
+use Rattle.ale_hierarchy.specs.Order.{hierarchy}
 use Rattle.ale_morphism.specs.Walking.{targets}
 use Rattle.ale_morphism.proofs.MapSteps.{map_agrees, none_from}
 use Rattle.ale_morphism.proofs.subsumption.subsumes.Goals as goal

@@ -2,7 +2,7 @@
 use Rattle.std.proofs.Common.{◌≡◌, ◌≤◌, ◌-◌, ◌++◌, suc, length, string_bytes}
 use Rattle.std.specs.Prelude.{reverse}
 use Rattle.ale_declared.specs.Lists.{Has}
-use Rattle.ale_signature.specs.Order.{hierarchy}
+use Rattle.ale_hierarchy.specs.Order.{hierarchy}
 use Rattle.ale_logic.specs.declared.answer.Answer.{Answer}
 use Rattle.ale_report.specs.Parts.{answers_text}
 use Rattle.ale_report.specs.Printing.{IsPrinted}

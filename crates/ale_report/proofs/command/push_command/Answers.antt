@@ -1,6 +1,6 @@
 use Rattle.std.proofs.Common.{ap, ◌∙◌, subst}
 use Rattle.ale_declared.specs.Lists.{Has}
-use Rattle.ale_signature.specs.Order.{hierarchy}
+use Rattle.ale_hierarchy.specs.Order.{hierarchy}
 use Rattle.ale_logic.specs.Descriptions.{description}
 use Rattle.ale_logic.specs.Visits.{Outcome}
 use Rattle.ale_report.proofs.Printed.{printed}

@@ -1,5 +1,5 @@
 use Rattle.std.proofs.Common.{List, length, eqb, true, arith, ◌≡◌, ◌∷◌, [], ◌+◌, inl, refl, sym, ap, ◌∙◌, subst}
-use Rattle.ale_signature.specs.Order.{hierarchy}
+use Rattle.ale_hierarchy.specs.Order.{hierarchy}
 use Rattle.ale_logic.specs.declared.answer.Answer.{Answer}
 use Rattle.ale_logic.specs.Descriptions.{description}
 use Rattle.ale_logic.specs.States.{start}

@@ -1,5 +1,5 @@
 use Rattle.std.proofs.Common.{[], ◌∷◌, ◌-◌}
-use Rattle.ale_signature.specs.Order.{hierarchy}
+use Rattle.ale_hierarchy.specs.Order.{hierarchy}
 use Rattle.ale_logic.specs.Descriptions.{description}
 use Rattle.ale_logic.specs.States.{start}
 use Rattle.ale_search.specs.Views.{waiting_of}

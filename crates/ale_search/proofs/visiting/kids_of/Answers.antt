@@ -1,4 +1,4 @@
-use Rattle.ale_signature.specs.Order.{hierarchy}
+use Rattle.ale_hierarchy.specs.Order.{hierarchy}
 use Rattle.ale_search.proofs.visiting.kids_of.Goals as goal
 
 pub returns-in-Take : goal.returns-in-Take

@@ -1,5 +1,5 @@
 use Rattle.std.proofs.Common.{◌≡◌, ◌∷◌, [], Some, length, sym, ap, ◌∙◌}
-use Rattle.ale_signature.specs.Order.{hierarchy}
+use Rattle.ale_hierarchy.specs.Order.{hierarchy}
 use Rattle.ale_graph.specs.Closure.{close}
 use Rattle.ale_search.specs.Views.{item_of, agenda_of, state_of, states_of}
 use Rattle.ale_search.proofs.Turned.{turned_push}

@@ -1,7 +1,7 @@
 use Rattle.std.proofs.Common.{ℕ, ◌<◌, length, arith}
-use Rattle.ale_signature.specs.Stages.{restriction_row, HasRestriction}
-use Rattle.ale_signature.proofs.JoinTableLemmas.{below_next}
-use Rattle.ale_signature.proofs.TabulatedLemmas.{tabulated_more}
+use Rattle.ale_hierarchy.specs.Stages.{restriction_row, HasRestriction}
+use Rattle.ale_hierarchy.proofs.JoinTableLemmas.{below_next}
+use Rattle.ale_hierarchy.proofs.TabulatedLemmas.{tabulated_more}
 use Rattle.ale_signature.proofs.restrictions.all_restrictions.Goals as goal
 
 pub loop-f-preserved : goal.loop-f-preserved

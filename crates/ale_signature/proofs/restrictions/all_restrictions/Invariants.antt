@@ -1,5 +1,5 @@
 use Rattle.std.proofs.Common.{◌≡◌, ℕ, ◌<◌, length}
-use Rattle.ale_signature.specs.Stages.{tabulated, restriction_row, HasRestriction}
+use Rattle.ale_hierarchy.specs.Stages.{tabulated, restriction_row, HasRestriction}
 use Rattle.ale_signature.proofs.restrictions.all_restrictions.Given as goal
 
 abbrev pub invariant-loop-f : goal.invariant-loop-f

@@ -1,5 +1,5 @@
 use Rattle.std.proofs.Common.{◌≡◌, ◌++◌, drop}
-use Rattle.ale_signature.specs.Stages.{restricted}
+use Rattle.ale_hierarchy.specs.Stages.{restricted}
 use Rattle.ale_signature.proofs.restrictions.find_restrictions.Given as goal
 
 abbrev pub invariant-loop-m : goal.invariant-loop-m

@@ -1,9 +1,10 @@
 use Rattle.std.proofs.Common.{◌∙◌, sym, map, ap, length, Some}
 use Rattle.ale_declared.specs.declared.decl.Mention.{Mention}
-use Rattle.ale_signature.proofs.StageLemmas.{mentions_of-within}
+use Rattle.ale_hierarchy.proofs.StageLemmas.{mentions_of-within}
 use Rattle.ale_signature.proofs.RestrictionLemmas.{ats-below, intro_found}
-use Rattle.ale_signature.specs.Faults.{when, lacks_intro, two_intros}
-use Rattle.ale_signature.proofs.StageFaults.{refuses_as, lacks_intro_at}
+use Rattle.ale_hierarchy.specs.Faults.{when, lacks_intro, two_intros}
+use Rattle.ale_hierarchy.proofs.HierarchyFaults.{refuses_as}
+use Rattle.ale_signature.proofs.StageFaults.{lacks_intro_at}
 use Rattle.ale_signature.proofs.restrictions.intro_of.Goals as goal
 
 pub types_at-requires : goal.types_at-requires

@@ -1,6 +1,6 @@
 use Rattle.std.proofs.Common.{◌≡◌, ℕ, ◌<◌}
-use Rattle.ale_signature.specs.Order.{Introduces, intro}
-use Rattle.ale_signature.specs.Stages.{tabulated}
+use Rattle.ale_hierarchy.specs.Order.{Introduces, intro}
+use Rattle.ale_hierarchy.specs.Stages.{tabulated}
 use Rattle.ale_signature.proofs.restrictions.intros.Given as goal
 
 abbrev pub invariant-loop-f : goal.invariant-loop-f

@@ -1,8 +1,8 @@
 use Rattle.std.proofs.Common.{ℕ, ◌+◌, ◌<◌, ◌++◌, drop, length, subst, Option, List}
 use Rattle.std.proofs.lemmas.Result.{err_from_is_err_and}
-use Rattle.ale_signature.specs.declared.stop.Stop.TheVariants.{Refused}
+use Rattle.ale_hierarchy.specs.declared.stop.Stop.TheVariants.{Refused}
 use Rattle.ale_relation.specs.Has.{Has}
-use Rattle.ale_signature.proofs.LoopLemmas.{IsErrOf-moved, drop_item, drop_end, Has_item, are_below-at, IfSome-at}
+use Rattle.ale_hierarchy.proofs.LoopLemmas.{IsErrOf-moved, drop_item, drop_end, Has_item, are_below-at, IfSome-at}
 use Rattle.ale_signature.proofs.RestrictionLemmas.{IsLeft, listed, IsLeft_narrowed, HaveNoJoin_narrowed, join_of_some-found, found_there}
 use Rattle.ale_signature.proofs.restrictions.join_all.Goals as goal
 

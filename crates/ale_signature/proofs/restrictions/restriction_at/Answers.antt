@@ -1,9 +1,9 @@
 use Rattle.std.proofs.Common.{sym, ◌∙◌, length}
-use Rattle.ale_signature.specs.Order.{approp}
-use Rattle.ale_signature.specs.Stages.{restriction_row}
-use Rattle.ale_signature.proofs.AppropLemmas.{approp_to, IsApprop_inside}
-use Rattle.ale_signature.proofs.LoopLemmas.{IfSome-from}
-use Rattle.ale_signature.proofs.TabulatedLemmas.{length-tabulated, length-row, entry-tabulated}
+use Rattle.ale_hierarchy.specs.Order.{approp}
+use Rattle.ale_hierarchy.specs.Stages.{restriction_row}
+use Rattle.ale_hierarchy.proofs.AppropLemmas.{approp_to, IsApprop_inside}
+use Rattle.ale_hierarchy.proofs.LoopLemmas.{IfSome-from}
+use Rattle.ale_hierarchy.proofs.TabulatedLemmas.{length-tabulated, length-row, entry-tabulated}
 use Rattle.ale_signature.proofs.restrictions.restriction_at.Goals as goal
 
 pub entry-requires-clause-row : goal.entry-requires-clause-row

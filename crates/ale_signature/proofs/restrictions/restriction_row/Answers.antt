@@ -1,12 +1,12 @@
 use Rattle.std.proofs.Common.{ℕ, ◌<◌, ◌∙◌, sym, Option, List, length, arith}
 use Rattle.std.proofs.lemmas.Result.{err_from_is_err_and}
-use Rattle.ale_signature.specs.declared.stop.Stop.TheVariants.{Refused}
-use Rattle.ale_signature.specs.Order.{approp}
-use Rattle.ale_signature.specs.Stages.{HasRestriction}
-use Rattle.ale_signature.proofs.LoopLemmas.{IsErrOf-moved}
-use Rattle.ale_signature.proofs.StageLemmas.{mentions_of-within}
-use Rattle.ale_signature.proofs.JoinTableLemmas.{below_next}
-use Rattle.ale_signature.proofs.TabulatedLemmas.{tabulated_more}
+use Rattle.ale_hierarchy.specs.declared.stop.Stop.TheVariants.{Refused}
+use Rattle.ale_hierarchy.specs.Order.{approp}
+use Rattle.ale_hierarchy.specs.Stages.{HasRestriction}
+use Rattle.ale_hierarchy.proofs.LoopLemmas.{IsErrOf-moved}
+use Rattle.ale_hierarchy.proofs.StageLemmas.{mentions_of-within}
+use Rattle.ale_hierarchy.proofs.JoinTableLemmas.{below_next}
+use Rattle.ale_hierarchy.proofs.TabulatedLemmas.{tabulated_more}
 use Rattle.ale_signature.proofs.RestrictionLemmas.{approp_is, HasRestriction-from, restrictions_lack}
 use Rattle.ale_signature.proofs.StageFaults.{HasRestrictions-found}
 use Rattle.ale_signature.proofs.restrictions.restriction_row.Goals as goal

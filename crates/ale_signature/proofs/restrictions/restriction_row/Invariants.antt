@@ -1,6 +1,6 @@
 use Rattle.std.proofs.Common.{◌≡◌, ℕ, ◌<◌}
-use Rattle.ale_signature.specs.Order.{approp}
-use Rattle.ale_signature.specs.Stages.{tabulated, HasRestriction}
+use Rattle.ale_hierarchy.specs.Order.{approp}
+use Rattle.ale_hierarchy.specs.Stages.{tabulated, HasRestriction}
 use Rattle.ale_signature.proofs.restrictions.restriction_row.Given as goal
 
 abbrev pub invariant-loop-t : goal.invariant-loop-t

@@ -1,7 +1,8 @@
 use Rattle.std.proofs.Common.{◌∙◌, sym, Some}
 use Rattle.std.proofs.lemmas.Result.{err_from_is_err_and}
-use Rattle.ale_signature.specs.Faults.{fill_fault}
-use Rattle.ale_signature.proofs.StageFaults.{refuses_as, filling_loop, filling_ext, filling_fill, filling_clear}
+use Rattle.ale_hierarchy.specs.Faults.{fill_fault}
+use Rattle.ale_hierarchy.proofs.HierarchyFaults.{refuses_as}
+use Rattle.ale_signature.proofs.StageFaults.{filling_loop, filling_ext, filling_fill, filling_clear}
 use Rattle.ale_signature.proofs.sizes.check_fills.Goals as goal
 
 pub returns-in_err-check_loops-clause-refused : goal.returns-in_err-check_loops-clause-refused

@@ -1,5 +1,5 @@
 use Rattle.std.proofs.Common.{◌≡◌, length}
-use Rattle.ale_signature.specs.Stages.{TellsSizes, KnowsTo}
+use Rattle.ale_hierarchy.specs.Stages.{TellsSizes, KnowsTo}
 use Rattle.ale_signature.proofs.sizes.find_sizes.Given as goal
 
 abbrev pub invariant-loop-round : goal.invariant-loop-round

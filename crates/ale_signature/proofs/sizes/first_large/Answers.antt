@@ -1,6 +1,6 @@
 use Rattle.std.proofs.Common.{◌∙◌, sym, ap}
 use Rattle.std.specs.Option.{option_map}
-use Rattle.ale_signature.specs.declared.fault.Fault.TheVariants.{FillTooLarge}
+use Rattle.ale_hierarchy.specs.declared.fault.Fault.TheVariants.{FillTooLarge}
 use Rattle.ale_signature.proofs.StageFaults.{fill_is}
 use Rattle.ale_signature.proofs.sizes.first_large.Goals as goal
 

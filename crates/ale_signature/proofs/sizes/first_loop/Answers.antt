@@ -1,9 +1,9 @@
 use Rattle.std.proofs.Common.{◌≤◌, ◌∙◌, sym, ap, length, arith}
 use Rattle.std.specs.Option.{option_map}
-use Rattle.ale_signature.specs.Accepted.{restriction_edges}
-use Rattle.ale_signature.specs.declared.fault.Fault.TheVariants.{Loop}
-use Rattle.ale_signature.proofs.AcceptedLemmas.{EndsBelow-restriction_edges}
-use Rattle.ale_signature.proofs.StageLemmas.{ends_below-from}
+use Rattle.ale_hierarchy.specs.Accepted.{restriction_edges}
+use Rattle.ale_hierarchy.specs.declared.fault.Fault.TheVariants.{Loop}
+use Rattle.ale_hierarchy.proofs.AcceptedLemmas.{EndsBelow-restriction_edges}
+use Rattle.ale_hierarchy.proofs.StageLemmas.{ends_below-from}
 use Rattle.ale_signature.proofs.StageFaults.{loop_is}
 use Rattle.ale_signature.proofs.sizes.first_loop.Goals as goal
 

@@ -1,7 +1,7 @@
 use Rattle.std.proofs.Common.{◌∙◌, sym, ap, ℕ}
 use Rattle.std.specs.Option.{option_map}
-use Rattle.ale_signature.specs.Order.{approp}
-use Rattle.ale_signature.proofs.WitnessLemmas.{filter_map_more, filter_map_no_more}
+use Rattle.ale_hierarchy.specs.Order.{approp}
+use Rattle.ale_signature.proofs.EdgeLemmas.{filter_map_more, filter_map_no_more}
 use Rattle.ale_signature.proofs.sizes.push_edges_of.Goals as goal
 use Rattle.ale_signature.proofs.sizes.push_edges_of.Goals.{in-Some+in_ok-push, in_default}
 

@@ -2,7 +2,7 @@ use Rattle.std.proofs.Common.{◌≡◌, ◌++◌}
 use Rattle.std.specs.List.{filter_map}
 use Rattle.std.specs.Option.{option_map}
 use Rattle.ale_declared.specs.Lists.{upto}
-use Rattle.ale_signature.specs.Order.{approp}
+use Rattle.ale_hierarchy.specs.Order.{approp}
 use Rattle.ale_signature.proofs.sizes.push_edges_of.Given as goal
 
 abbrev pub invariant-loop-f : goal.invariant-loop-f

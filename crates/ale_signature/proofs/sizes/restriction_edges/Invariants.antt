@@ -2,7 +2,7 @@ use Rattle.std.proofs.Common.{◌≡◌}
 use Rattle.std.specs.List.{flat_map, filter_map}
 use Rattle.std.specs.Option.{option_map}
 use Rattle.ale_declared.specs.Lists.{upto}
-use Rattle.ale_signature.specs.Order.{approp, all_features}
+use Rattle.ale_hierarchy.specs.Order.{approp, all_features}
 use Rattle.ale_signature.proofs.sizes.restriction_edges.Given as goal
 
 abbrev pub invariant-loop-t : goal.invariant-loop-t

@@ -1,6 +1,6 @@
 use Rattle.std.proofs.Common.{◌+◌, drop}
 use Rattle.ale_relation.specs.Has.{Has}
-use Rattle.ale_signature.proofs.LoopLemmas.{Has_item, drop_item, drop_end}
+use Rattle.ale_hierarchy.proofs.LoopLemmas.{Has_item, drop_item, drop_end}
 use Rattle.ale_signature.proofs.SizeTableLemmas.{features-below, size_past, size_all}
 use Rattle.ale_signature.proofs.sizes.size_of.Goals as goal
 

@@ -1,7 +1,7 @@
 use Rattle.std.proofs.Common.{◌≡◌, ◌+◌, ◌≤◌, suc, drop}
 use Rattle.ale_declared.specs.Lists.{sum_over}
-use Rattle.ale_signature.specs.Order.{approp, size, if_there}
-use Rattle.ale_signature.specs.Limits.{most_nodes}
+use Rattle.ale_hierarchy.specs.Order.{approp, size, if_there}
+use Rattle.ale_hierarchy.specs.Limits.{most_nodes}
 use Rattle.ale_signature.proofs.sizes.size_of.Given as goal
 
 abbrev pub invariant-loop-f : goal.invariant-loop-f

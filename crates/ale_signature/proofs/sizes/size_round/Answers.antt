@@ -1,7 +1,7 @@
 use Rattle.std.proofs.Common.{◌≡◌, ◌∙◌, ◌<◌, sym, ap, List, ℕ, length, get_or, arith, length-set}
 use Rattle.std.proofs.lemmas.Bool.{true≢false}
-use Rattle.ale_signature.specs.Order.{features}
-use Rattle.ale_signature.proofs.TabulatedLemmas.{length-tabulated, get_or-tabulated}
+use Rattle.ale_hierarchy.specs.Order.{features}
+use Rattle.ale_hierarchy.proofs.TabulatedLemmas.{length-tabulated, get_or-tabulated}
 use Rattle.ale_signature.proofs.SizeTableLemmas.{TellsSizes-set, KnowsTo-set, size_found, known_next}
 use Rattle.ale_signature.proofs.sizes.size_round.Goals as goal
 use Rattle.ale_signature.proofs.sizes.size_round.Goals.{then-note, else-note}

@@ -1,8 +1,8 @@
 use Rattle.std.proofs.Common.{◌≡◌, false, ℕ, ◌+◌, ◌<◌, ◌≤◌, length}
 use Rattle.std.specs.Prelude.{slice_index_or}
-use Rattle.ale_signature.specs.Order.{size}
-use Rattle.ale_signature.specs.Limits.{most_nodes}
-use Rattle.ale_signature.specs.Stages.{TellsSizes, KnowsTo}
+use Rattle.ale_hierarchy.specs.Order.{size}
+use Rattle.ale_hierarchy.specs.Limits.{most_nodes}
+use Rattle.ale_hierarchy.specs.Stages.{TellsSizes, KnowsTo}
 use Rattle.ale_signature.proofs.sizes.size_round.Given as goal
 
 abbrev pub invariant-loop-t : goal.invariant-loop-t

@@ -1,13 +1,13 @@
 use Rattle.std.proofs.Common.{◌≡◌, ◌<◌, ◌∙◌, sym, ap, ℕ, List, false, length, get_or, arith}
 use Rattle.ale_declared.specs.declared.decl.Mention.{Mention}
-use Rattle.ale_signature.specs.Stages.{mentions_of}
-use Rattle.ale_signature.specs.Faults.{clashes}
-use Rattle.ale_signature.specs.declared.fault.Fault.TheVariants.{ValueClash}
-use Rattle.ale_signature.proofs.StageLemmas.{mentions_of-within}
-use Rattle.ale_signature.proofs.TabulatedLemmas.{length-tabulated, get_or-tabulated}
-use Rattle.ale_signature.proofs.JoinTableLemmas.{below_next}
-use Rattle.ale_signature.proofs.AnswerLemmas.{test_first, test_clear}
-use Rattle.ale_signature.proofs.WitnessLemmas.{clash_tested}
+use Rattle.ale_hierarchy.specs.Stages.{mentions_of}
+use Rattle.ale_hierarchy.specs.Faults.{clashes}
+use Rattle.ale_hierarchy.specs.declared.fault.Fault.TheVariants.{ValueClash}
+use Rattle.ale_hierarchy.proofs.StageLemmas.{mentions_of-within}
+use Rattle.ale_hierarchy.proofs.TabulatedLemmas.{length-tabulated, get_or-tabulated}
+use Rattle.ale_hierarchy.proofs.JoinTableLemmas.{below_next}
+use Rattle.ale_hierarchy.proofs.AnswerLemmas.{test_first, test_clear}
+use Rattle.ale_signature.proofs.ClashLemmas.{clash_tested}
 use Rattle.ale_signature.proofs.witnesses.clash_of.Goals as goal
 
 pub bounds-mentions-f : goal.bounds-mentions-f

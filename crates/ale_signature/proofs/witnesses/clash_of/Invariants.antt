@@ -1,5 +1,5 @@
 use Rattle.std.proofs.Common.{◌≡◌, ℕ, ◌<◌, false}
-use Rattle.ale_signature.specs.Faults.{clashes}
+use Rattle.ale_hierarchy.specs.Faults.{clashes}
 use Rattle.ale_signature.proofs.witnesses.clash_of.Given as goal
 
 abbrev pub invariant-loop-f : goal.invariant-loop-f

@@ -1,6 +1,6 @@
-use Rattle.ale_signature.specs.Order.{join_of_some}
-use Rattle.ale_signature.specs.Stages.{restricted}
-use Rattle.ale_signature.proofs.WitnessLemmas.{no_clash_found}
+use Rattle.ale_hierarchy.specs.Order.{join_of_some}
+use Rattle.ale_hierarchy.specs.Stages.{restricted}
+use Rattle.ale_signature.proofs.ClashLemmas.{no_clash_found}
 use Rattle.ale_signature.proofs.witnesses.has_clash.Goals as goal
 
 pub returns-in-Ok : goal.returns-in-Ok

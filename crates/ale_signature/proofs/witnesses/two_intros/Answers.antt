@@ -1,6 +1,6 @@
 use Rattle.ale_declared.specs.Lists.{is_among}
 use Rattle.std.proofs.Common.{length}
-use Rattle.ale_signature.proofs.WitnessLemmas.{filtered-below}
+use Rattle.ale_hierarchy.proofs.WitnessLemmas.{filtered-below}
 use Rattle.ale_signature.proofs.witnesses.two_intros.Goals as goal
 
 pub first_tops-requires : goal.first_tops-requires

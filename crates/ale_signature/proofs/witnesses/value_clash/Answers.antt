@@ -1,9 +1,10 @@
 use Rattle.std.proofs.Common.{◌≡◌, ◌∙◌, sym, ℕ, None, length, arith}
-use Rattle.ale_signature.specs.Order.{all_features}
-use Rattle.ale_signature.specs.Faults.{when, first_answer, clashes}
-use Rattle.ale_signature.specs.declared.fault.Fault.TheVariants.{ValueClash}
-use Rattle.ale_signature.proofs.JoinTableLemmas.{below_next}
-use Rattle.ale_signature.proofs.WitnessLemmas.{found_first, not_found, found_nowhere, clash_fault_is}
+use Rattle.ale_hierarchy.specs.Order.{all_features}
+use Rattle.ale_hierarchy.specs.Faults.{when, first_answer, clashes}
+use Rattle.ale_hierarchy.specs.declared.fault.Fault.TheVariants.{ValueClash}
+use Rattle.ale_hierarchy.proofs.JoinTableLemmas.{below_next}
+use Rattle.ale_hierarchy.proofs.WitnessLemmas.{found_first, not_found, found_nowhere}
+use Rattle.ale_signature.proofs.ClashLemmas.{clash_fault_is}
 use Rattle.ale_signature.proofs.witnesses.value_clash.Goals as goal
 
 pub returns-then-is_some : goal.returns-then-is_some

@@ -1,7 +1,7 @@
 use Rattle.std.proofs.Common.{◌≡◌, ℕ, ◌<◌, None}
-use Rattle.ale_signature.specs.Order.{all_features}
-use Rattle.ale_signature.specs.Faults.{when, first_answer, clashes}
-use Rattle.ale_signature.specs.declared.fault.Fault.TheVariants.{ValueClash}
+use Rattle.ale_hierarchy.specs.Order.{all_features}
+use Rattle.ale_hierarchy.specs.Faults.{when, first_answer, clashes}
+use Rattle.ale_hierarchy.specs.declared.fault.Fault.TheVariants.{ValueClash}
 use Rattle.ale_signature.proofs.witnesses.value_clash.Given as goal
 
 abbrev pub invariant-loop-t : goal.invariant-loop-t

@@ -1,6 +1,6 @@
 use Rattle.ale_declared.specs.Declarations.{declared}
 use Rattle.ale_declared.proofs.DeclaredLemmas.{IsWellNumbered-declared}
-use Rattle.ale_signature.specs.declared.error.SigError.TheVariants.{TooManyTypes, TooManyFeatures, SubCycle, NoJoin, TwoIntros, ValueClash, Loop, ExtNotMaximal, FillTooLarge}
+use Rattle.ale_hierarchy.specs.declared.error.SigError.TheVariants.{TooManyTypes, TooManyFeatures, SubCycle, NoJoin, TwoIntros, ValueClash, Loop, ExtNotMaximal, FillTooLarge}
 use Rattle.ale_signature.proofs.BuildLemmas.{accepted_result, accepts_result, lawful_result, refuses_result}
 use Rattle.ale_signature.proofs.RefusalLemmas.{exactly}
 use Rattle.ale_signature.proofs.signature.Signature.build.Goals as goal

@@ -1,5 +1,5 @@
 use Rattle.std.proofs.Common.{◌≡◌, ◌∙◌, length, arith}
-use Rattle.ale_signature.specs.Order.{features}
+use Rattle.ale_hierarchy.specs.Order.{features}
 use Rattle.ale_signature.proofs.SignatureLemmas.{table_length, table_at}
 use Rattle.ale_signature.proofs.signature.Signature.features.Goals as goal
 

@@ -1,5 +1,5 @@
 use Rattle.std.proofs.Common.{◌≡◌, ◌∙◌, sym, subst, ℕ, length, arith}
-use Rattle.ale_signature.specs.Order.{Introduces, intro}
+use Rattle.ale_hierarchy.specs.Order.{Introduces, intro}
 use Rattle.ale_signature.proofs.LawLemmas.{Introduces-intro}
 use Rattle.ale_signature.proofs.SignatureLemmas.{table_length, table_at}
 use Rattle.ale_signature.proofs.signature.Signature.intro.Goals as goal

@@ -1,5 +1,5 @@
 use Rattle.std.proofs.Common.{◌≡◌, false, length, get_or, arith}
-use Rattle.ale_signature.specs.Order.{is_ext}
+use Rattle.ale_hierarchy.specs.Order.{is_ext}
 use Rattle.ale_signature.proofs.SignatureLemmas.{table_length, table_at, ext_found}
 use Rattle.ale_signature.proofs.signature.Signature.is_ext.Goals as goal
 

@@ -1,6 +1,7 @@
 use Rattle.std.proofs.Common.{◌∙◌}
 use Rattle.std.proofs.lemmas.Result.{err_from_is_err_and}
-use Rattle.ale_signature.proofs.StageFaults.{joins_clear, intros_clear, restrictions_clear}
+use Rattle.ale_hierarchy.proofs.HierarchyFaults.{joins_clear}
+use Rattle.ale_signature.proofs.StageFaults.{intros_clear, restrictions_clear}
 use Rattle.ale_signature.proofs.FaultOf.{accepted_where}
 use Rattle.ale_signature.proofs.BuildLemmas.{at_joins, at_intros, at_clashes, at_fills, none_at_all}
 use Rattle.ale_signature.proofs.signature.Signature.of_order.Goals as goal

@@ -1,4 +1,4 @@
-use Rattle.ale_signature.proofs.OrderLemmas.{is_above_to, is_above_from}
+use Rattle.ale_hierarchy.proofs.OrderLemmas.{is_above_to, is_above_from}
 use Rattle.ale_signature.proofs.signature.Signature.subsumes.Goals as goal
 
 pub returns-clause-paths : goal.returns-clause-paths

@@ -1,6 +1,0 @@
-use Rattle.std.proofs.Common.{◌≡◌, ℕ, ◌<◌, false}
-use Rattle.ale_signature.specs.Faults.{is_not_maximal}
-use Rattle.ale_signature.proofs.last.not_maximal.Given as goal
-
-abbrev pub invariant-loop-t : goal.invariant-loop-t
-invariant-loop-t l = (t : ℕ) → t < l.t → is_not_maximal l.order t ≡ false

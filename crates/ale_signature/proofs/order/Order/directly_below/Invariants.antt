@@ -1,6 +1,0 @@
-use Rattle.std.proofs.Common.{◌≡◌, ◌++◌, drop}
-use Rattle.ale_signature.specs.Stages.{directly_below}
-use Rattle.ale_signature.proofs.order.Order.directly_below.Given as goal
-
-abbrev pub invariant-loop-from : goal.invariant-loop-from
-invariant-loop-from l = l.below.items ++ directly_below (drop l.from-index l.from-items) l.t ≡ directly_below l.from-items l.t

@@ -1,6 +1,0 @@
-use Rattle.std.proofs.Common.{◌≡◌, ◌++◌, drop}
-use Rattle.ale_signature.specs.Stages.{mentions_of}
-use Rattle.ale_signature.proofs.order.Order.mentions_of.Given as goal
-
-abbrev pub invariant-loop-mention : goal.invariant-loop-mention
-invariant-loop-mention l = l.found.items ++ mentions_of (drop l.mention-index l.mention-items) l.feature ≡ mentions_of l.mention-items l.feature

@@ -1,7 +1,0 @@
-use Rattle.std.proofs.Common.{◌≡◌}
-use Rattle.ale_signature.specs.Order.{rank}
-use Rattle.ale_signature.specs.Stages.{tabulated}
-use Rattle.ale_signature.proofs.order.Order.ranks.Given as goal
-
-abbrev pub invariant-loop-t : goal.invariant-loop-t
-invariant-loop-t l = l.ranks.items ≡ tabulated (rank l.self) l.t
