@@ -1,7 +1,7 @@
 -- What a call that carries out the functions has answered, in the words of the relations.
 use Rattle.std.proofs.Common.{◌≡◌, ◌≢◌, ℕ, List, Result, Ok, Err, IfOk, IfErr, map, refl, subst}
 use Rattle.ale_declared.specs.Declarations.{Declared}
-use Rattle.ale_signature.specs.Order.{hierarchy}
+use Rattle.ale_hierarchy.specs.Order.{hierarchy}
 use Rattle.ale_resolve.specs.declared.describing.Described.{Described}
 use Rattle.ale_load.specs.declared.grammar.Loaded.{Loaded}
 use Rattle.ale_load.specs.declared.grammar_error.GrammarError.{GrammarError}

@@ -1,13 +1,13 @@
 -- Grammars and commands are what the relations say, which the functions give.
 use Rattle.std.proofs.Common.{◌≡◌, ◌↔◌, ℕ, suc, List, [], ◌∷◌, Option, Some, None, Result, Ok, Err, refl, sym, ap, ◌∙◌, subst}
 use Rattle.ale_term.specs.declared.lexeme.Lexeme.{Lexeme}
-use Rattle.ale_signature.specs.declared.fault.Fault.{Fault}
+use Rattle.ale_hierarchy.specs.declared.fault.Fault.{Fault}
 use Rattle.ale_signature.specs.Deciding.{FaultsDecide}
-use Rattle.ale_signature.specs.Hierarchy.{IsLawful}
-use Rattle.ale_signature.specs.Order.{hierarchy}
+use Rattle.ale_hierarchy.specs.Hierarchy.{IsLawful}
+use Rattle.ale_hierarchy.specs.Order.{hierarchy}
 use Rattle.ale_signature.specs.Laws.{SignatureLaw}
 use Rattle.ale_declared.specs.Numbering.{DeclaredIsNumbered}
-use Rattle.ale_signature.specs.Faults.{fault_of}
+use Rattle.ale_hierarchy.specs.Faults.{fault_of}
 use Rattle.ale_load.specs.declared.file_error.FileError.{FileError}
 use Rattle.ale_load.specs.Files.{IsCut, cut_of}
 use Rattle.ale_load.specs.Reading.{Refusal, AreRead, each_read, first_without}

@@ -1,4 +1,5 @@
 pub mod Answering
+pub mod Asked
 pub mod CommandLaws
 pub mod Cutting
 pub mod Laws

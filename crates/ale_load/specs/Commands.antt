@@ -7,11 +7,12 @@ use Rattle.ale_token.specs.declared.token.TokenError.TheVariants as token
 use Rattle.ale_form.specs.declared.error.FormError.{FormError}
 use Rattle.ale_form.specs.Results.{Answers}
 use Rattle.ale_declared.specs.Declarations.{Declared}
-use Rattle.ale_signature.specs.Hierarchy.{Hierarchy}
+use Rattle.ale_hierarchy.specs.Hierarchy.{Hierarchy}
 use Rattle.ale_logic.specs.Descriptions.{Description, FitsDescription}
 use Rattle.ale_resolve.specs.declared.error.NameError.{NameError}
 use Rattle.ale_resolve.specs.Forms.{is_plain, parts}
-use Rattle.ale_resolve.specs.Resolving.{resolved}
+use Rattle.ale_resolve.specs.Mentions.{Mention, mentions, IsFirstUnknown, unknown}
+use Rattle.ale_resolve.specs.Resolving.{StandsFor, resolved}
 use Rattle.ale_command.specs.Commands.{CommandData, mgsat, query, lex, rec, gen, code, IsCommand}
 use Rattle.ale_command.specs.Reading.{command_of}
 use Rattle.ale_load.specs.declared.file_error.FileError.{FileError}
@@ -44,22 +45,16 @@ Query = Description × List (List ℕ)
 abbrev pub Unknown : Type 0
 Unknown = ℕ × NameError
 
-abbrev pub with_query : Query → Result (List Query) Unknown → Result (List Query) Unknown
-with_query q (Ok qs) = Ok (q ∷ qs)
-with_query q (Err u) = Err u
-
-abbrev pub looked_up : ℕ → Result Query NameError → Result (List Query) Unknown → Result (List Query) Unknown
-looked_up k (Ok q) later = with_query q later
-looked_up k (Err e) later = Err (k, e)
-
-abbrev pub query_with : Declared → ℕ → Option TermData → Result (List Query) Unknown → Result (List Query) Unknown
-query_with d k (Some t) later = looked_up k (resolved d [] t) later
-query_with d k None later = later
-
--- What built commands ask for: their names are looked up one after the other, up to the first that is not declared.
-abbrev pub queries_of : Declared → ℕ → List CommandData → Result (List Query) Unknown
-queries_of d k [] = Ok []
-queries_of d k (c ∷ cs) = query_with d k (asked c) (queries_of d (suc k) cs)
+-- The commands, counted from a number on, ask for these queries: each for what its written description stands for. Or a
+-- name is not declared: the first such name of the first command that has one.
+pub data AreAsked (d : Declared) : ℕ → List CommandData → Result (List Query) Unknown → Type 0 where
+  none_left : (k : ℕ) → AreAsked d k [] (Ok [])
+  one_more : (k : ℕ) (c : CommandData) (cs : List CommandData) (t : TermData) (x : Description) (vs : List (List ℕ)) (qs : List Query) →
+      asked c ≡ Some t → StandsFor d [] t x vs → AreAsked d (suc k) cs (Ok qs) → AreAsked d k (c ∷ cs) (Ok ((x, vs) ∷ qs))
+  later_unknown : (k : ℕ) (c : CommandData) (cs : List CommandData) (t : TermData) (x : Description) (vs : List (List ℕ)) (u : Unknown) →
+      asked c ≡ Some t → StandsFor d [] t x vs → AreAsked d (suc k) cs (Err u) → AreAsked d k (c ∷ cs) (Err u)
+  one_unknown : (k : ℕ) (c : CommandData) (cs : List CommandData) (t : TermData) (m : Mention) →
+      asked c ≡ Some t → IsFirstUnknown d (mentions t) m → AreAsked d k (c ∷ cs) (Err (k, unknown m))
 
 -- the descriptions speak of types and features of the hierarchy, and of variables that have a name
 abbrev pub AllFit : Hierarchy → List Query → Type 0
@@ -90,11 +85,27 @@ pub data AreCommands (d : Declared) (c : List ℕ) : Result (List Query) Command
   not_built : (ps : List (List Lexeme)) (cs : List CommandData) (k : ℕ) → IsCut c (Ok ps) → AreRead (Answers IsCommand) 1 ps (Ok cs) →
       first_without is_built 1 cs ≡ Some k → AreCommands d c (Err (NotBuilt k))
   not_named : (ps : List (List Lexeme)) (cs : List CommandData) (u : Unknown) → IsCut c (Ok ps) → AreRead (Answers IsCommand) 1 ps (Ok cs) →
-      first_without is_built 1 cs ≡ None → queries_of d 1 cs ≡ Err u → AreCommands d c (Err (Name u.0 u.1))
+      first_without is_built 1 cs ≡ None → AreAsked d 1 cs (Err u) → AreCommands d c (Err (Name u.0 u.1))
   are_taken : (ps : List (List Lexeme)) (cs : List CommandData) (qs : List Query) → IsCut c (Ok ps) → AreRead (Answers IsCommand) 1 ps (Ok cs) →
-      first_without is_built 1 cs ≡ None → queries_of d 1 cs ≡ Ok qs → AreCommands d c (Ok qs)
+      first_without is_built 1 cs ≡ None → AreAsked d 1 cs (Ok qs) → AreCommands d c (Ok qs)
 
 -- the same as a function, stage by stage
+abbrev pub with_query : Query → Result (List Query) Unknown → Result (List Query) Unknown
+with_query q (Ok qs) = Ok (q ∷ qs)
+with_query q (Err u) = Err u
+
+abbrev pub looked_up : ℕ → Result Query NameError → Result (List Query) Unknown → Result (List Query) Unknown
+looked_up k (Ok q) later = with_query q later
+looked_up k (Err e) later = Err (k, e)
+
+abbrev pub query_with : Declared → ℕ → Option TermData → Result (List Query) Unknown → Result (List Query) Unknown
+query_with d k (Some t) later = looked_up k (resolved d [] t) later
+query_with d k None later = later
+
+abbrev pub queries_of : Declared → ℕ → List CommandData → Result (List Query) Unknown
+queries_of d k [] = Ok []
+queries_of d k (c ∷ cs) = query_with d k (asked c) (queries_of d (suc k) cs)
+
 abbrev pub after_names : Result (List Query) Unknown → Result (List Query) CommandError
 after_names (Ok qs) = Ok qs
 after_names (Err u) = Err (Name u.0 u.1)

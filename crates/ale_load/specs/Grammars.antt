@@ -6,11 +6,11 @@ use Rattle.ale_form.specs.declared.error.FormError.{FormError}
 use Rattle.ale_declared.specs.declared.decl.SigDecl.{SigDecl}
 use Rattle.ale_declared.specs.declared.decl.SigDecl.TheVariants.{Kind, Ext}
 use Rattle.ale_declared.specs.Declarations.{Declared, declared}
-use Rattle.ale_signature.specs.declared.fault.Fault.{Fault}
-use Rattle.ale_signature.specs.declared.error.SigError.{SigError}
-use Rattle.ale_signature.specs.Accepted.{IsAccepted}
-use Rattle.ale_signature.specs.Faults.{fault_of}
-use Rattle.ale_signature.specs.Refusals.{IsFault, named_fault}
+use Rattle.ale_hierarchy.specs.declared.fault.Fault.{Fault}
+use Rattle.ale_hierarchy.specs.declared.error.SigError.{SigError}
+use Rattle.ale_hierarchy.specs.Accepted.{IsAccepted}
+use Rattle.ale_hierarchy.specs.Faults.{fault_of}
+use Rattle.ale_hierarchy.specs.Refusals.{IsFault, named_fault}
 use Rattle.ale_declaration.specs.Declarations.{DeclarationData, signature, constraint, macro, clause, word, empty, lex_rule, rule, semantics, lex_depth, chain_length, passed_over}
 use Rattle.ale_declaration.specs.Answers.{DeclarationAnswers}
 use Rattle.ale_declaration.specs.Reading.{declaration_of}

@@ -1,8 +1,8 @@
 -- Files are read in one way or refused for one cause, which the functions give; what is read is lawful and fits.
 use Rattle.std.specs.Prelude.{◌≡◌, ◌↔◌, ℕ, Result, Ok, List}
 use Rattle.ale_declared.specs.Declarations.{Declared}
-use Rattle.ale_signature.specs.Hierarchy.{IsLawful}
-use Rattle.ale_signature.specs.Order.{hierarchy}
+use Rattle.ale_hierarchy.specs.Hierarchy.{IsLawful}
+use Rattle.ale_hierarchy.specs.Order.{hierarchy}
 use Rattle.ale_load.specs.declared.grammar_error.GrammarError.{GrammarError}
 use Rattle.ale_load.specs.declared.command_error.CommandError.{CommandError}
 use Rattle.ale_load.specs.Grammars.{LoadedData, IsLoaded, load_of}

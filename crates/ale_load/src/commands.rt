@@ -5,7 +5,7 @@ ghost use Rattle.ale_token.specs.Places.{Stands};
 ghost use Rattle.ale_token.specs.Declarations.{IsDeclaration};
 ghost use Rattle.ale_form.specs.Results.{Gives};
 ghost use Rattle.ale_term.specs.Terms.{term_data};
-ghost use Rattle.ale_signature.specs.Order.{hierarchy};
+ghost use Rattle.ale_hierarchy.specs.Order.{hierarchy};
 ghost use Rattle.ale_declared.specs.Declarations.{Declared};
 ghost use Rattle.ale_logic.specs.Descriptions.{description, FitsDescription};
 ghost use Rattle.ale_resolve.specs.Forms.{is_plain, parts};

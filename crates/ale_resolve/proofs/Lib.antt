@@ -3,3 +3,4 @@ pub mod Loops
 pub mod Meaning
 pub mod Numbering
 pub mod Spending
+pub mod Unknown

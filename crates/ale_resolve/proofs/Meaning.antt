@@ -5,7 +5,7 @@ use Rattle.std.specs.Prelude.{Result, Ok, Err, Bool, true, false, ◌&&◌}
 use Rattle.ale_relation.specs.Has.{Has}
 use Rattle.ale_declared.specs.Declarations.{Declared}
 use Rattle.ale_declared.specs.Names.{named}
-use Rattle.ale_signature.specs.Order.{hierarchy}
+use Rattle.ale_hierarchy.specs.Order.{hierarchy}
 use Rattle.ale_declared.proofs.NumberLemmas.{is_named_has}
 use Rattle.ale_declared.proofs.NameLemmas.{named_none}
 use Rattle.ale_term.specs.Terms as term
@@ -22,11 +22,11 @@ use Rattle.ale_resolve.specs.Resolving.{IsPath, ended, step, StandsFor, AllStand
 use Rattle.ale_resolve.proofs.Numbering.{named_there, named_below, slot_found, slot_only, slot_below}
 
 -- taking results apart
-with_ok : {A B : Type 0} (r : Result A NameError) (next : A → Result B NameError) (y : B) → with r next ≡ Ok y → (x : A) × (r ≡ Ok x) × (next x ≡ Ok y)
+pub with_ok : {A B : Type 0} (r : Result A NameError) (next : A → Result B NameError) (y : B) → with r next ≡ Ok y → (x : A) × (r ≡ Ok x) × (next x ≡ Ok y)
 with_ok (Ok x) next y e = (x, refl, e)
 with_ok (Err f) next y e = absurd cc
 
-with_err : {A B : Type 0} (r : Result A NameError) (next : A → Result B NameError) (f : NameError) → with r next ≡ Err f → (r ≡ Err f) ⊎ ((x : A) × (r ≡ Ok x) × (next x ≡ Err f))
+pub with_err : {A B : Type 0} (r : Result A NameError) (next : A → Result B NameError) (f : NameError) → with r next ≡ Err f → (r ≡ Err f) ⊎ ((x : A) × (r ≡ Ok x) × (next x ≡ Err f))
 with_err (Ok x) next f e = inr (x, refl, e)
 with_err (Err g) next f e = let same : g ≡ f = cc in inl (ap Err same)
 
@@ -46,14 +46,14 @@ ok_pair {A} {B} a c b d e =
     let same : p ≡ q = ok_same p q e in
     (ap (λ z. z.0) same, ap (λ z. z.1) same)
 
-no_err : {A : Type 0} (x : A) (e : NameError) → sound x ≡ Err e → ⊥
+pub no_err : {A : Type 0} (x : A) (e : NameError) → sound x ≡ Err e → ⊥
 no_err x e h = absurd cc
 
 found_ok : (f : NameError) (o : Option ℕ) (k : ℕ) → found f o ≡ Ok k → o ≡ Some k
 found_ok f None k e = absurd cc
 found_ok f (Some j) k e = let same : j ≡ k = cc in ap Some same
 
-found_err : (f g : NameError) (o : Option ℕ) → found f o ≡ Err g → (o ≡ None) × (f ≡ g)
+pub found_err : (f g : NameError) (o : Option ℕ) → found f o ≡ Err g → (o ≡ None) × (f ≡ g)
 found_err f g None e = let same : f ≡ g = cc in (refl, same)
 found_err f g (Some j) e = absurd cc
 
@@ -158,7 +158,7 @@ mutual
       ap (λ n. n + description.parts_of_all ys') (same_parts d ws ys t x s) ∙ ap (λ n. parts t + n) (all_same_parts d ys zs rest ys' k)
 
 -- it has a disjunction only where the term has one
-both_of : (a b : Bool) → (a && b) ≡ true → (a ≡ true) × (b ≡ true)
+pub both_of : (a b : Bool) → (a && b) ≡ true → (a ≡ true) × (b ≡ true)
 both_of true b h = (refl, h)
 both_of false b h = absurd cc
 
@@ -235,7 +235,7 @@ mutual
       (with_slots d (length ys) (length zs) x (all_grow d ys zs rest ys' k).more (fits d ws ys t x s), all_fit d ys zs rest ys' k)
 
 -- all names are declared
-abbrev AreDeclared : Declared → List Mention → Type 0
+abbrev pub AreDeclared : Declared → List Mention → Type 0
 AreDeclared d [] = Unit {0}
 AreDeclared d (m ∷ ms) = IsDeclared d m × AreDeclared d ms
 
@@ -251,7 +251,7 @@ path_declared d fs ks ended = tt
 path_declared d fs ks (step f gs k js e rest) = (has_name d.features f k e, path_declared d gs js rest)
 
 mutual
-  declared : (d : Declared) (vs us : List (List ℕ)) (t : TermData) (x : Description) → StandsFor d vs t x us → AreDeclared d (mentions t)
+  pub declared : (d : Declared) (vs us : List (List ℕ)) (t : TermData) (x : Description) → StandsFor d vs t x us → AreDeclared d (mentions t)
   declared d vs us t x (a_type ws n k e) = (has_name d.types n k e, tt)
   declared d vs us t x (a_variable ws zs v k s) = tt
   declared d vs us t x (a_value ws zs f k u y e s) = (has_name d.features f k e, declared d ws zs u y s)
@@ -314,7 +314,7 @@ path_caused d (f ∷ fs) e k = elim (with_err (feature_of d f) (λ k. with (path
 ]
 
 mutual
-  caused : (d : Declared) (vs : List (List ℕ)) (t : TermData) (e : NameError) → resolved d vs t ≡ Err e → IsCaused d (mentions t) e
+  pub caused : (d : Declared) (vs : List (List ℕ)) (t : TermData) (e : NameError) → resolved d vs t ≡ Err e → IsCaused d (mentions t) e
   caused d vs (term.name n) e k = elim (with_err (type_of d n) (λ k. Ok (of_type k, vs)) e k) [
     | inl missing ↦ let r = found_err (UnknownType n) e (named d.types n) missing in
         subst (IsCaused d (type n ∷ [])) r.1 (inl (named_none d.types n r.0, refl))

@@ -39,6 +39,11 @@ abbrev pub IsFirstUnknown : Declared → List Mention → Mention → Type 0
 IsFirstUnknown d [] m = ⊥
 IsFirstUnknown d (x ∷ xs) m = ((IsDeclared d x → ⊥) × (x ≡ m)) ⊎ (IsDeclared d x × IsFirstUnknown d xs m)
 
+-- the fault that tells of a name that is not declared
+abbrev pub unknown : Mention → NameError
+unknown (type n) = UnknownType n
+unknown (feature f) = UnknownFeature f
+
 -- why there is no description: the first name that is not declared; memory may run out for no cause
 abbrev pub Causes : Declared → TermData → NameError → Type 0
 Causes d t (UnknownType n) = IsFirstUnknown d (mentions t) (type n)

@@ -1,5 +1,5 @@
 ghost use Rattle.std.specs.Prelude.{◌≡◌, ◌≤◌, ◌+◌, ◌^◌, IfOk, IfErr, List, ℕ, [], true, length};
-ghost use Rattle.ale_signature.specs.Order.{hierarchy};
+ghost use Rattle.ale_hierarchy.specs.Order.{hierarchy};
 ghost use Rattle.ale_term.specs.Terms.{term_data};
 ghost use Rattle.ale_logic.specs.Descriptions.{Description, description, FitsDescription, HasNoChoice, parts as parts_described};
 ghost use Rattle.ale_resolve.specs.declared.error.NameError.TheVariants.{NoMemory};

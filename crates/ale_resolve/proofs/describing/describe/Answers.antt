@@ -1,7 +1,7 @@
 use Rattle.std.proofs.Common.{◌≡◌, sym, ap, ◌∙◌, subst, length, [], arith}
 use Rattle.std.specs.Prelude.{Ok}
 use Rattle.std.proofs.lemmas.Result.{err_from_is_err_and}
-use Rattle.ale_signature.specs.Order.{hierarchy}
+use Rattle.ale_hierarchy.specs.Order.{hierarchy}
 use Rattle.ale_term.specs.Terms.{term_data}
 use Rattle.ale_logic.specs.Descriptions.{description, FitsDescription}
 use Rattle.ale_resolve.specs.Resolving.{StandsFor, resolved}
