@@ -1,8 +1,8 @@
 -- Loops that write: what was written, before what is left to write.
 use Rattle.std.proofs.Common.{◌≡◌, ℕ, suc, ◌+◌, ◌<◌, Bool, true, false, ◌&&◌, List, [], ◌∷◌, ◌++◌, map, drop, get_or, length, refl, sym, ap, ◌∙◌, subst, append_assoc, add-one}
 use Rattle.ale_declared.specs.Declarations.{Declared}
-use Rattle.ale_signature.specs.Hierarchy.{Hierarchy}
-use Rattle.ale_signature.proofs.LoopLemmas.{drop_item}
+use Rattle.ale_hierarchy.specs.Hierarchy.{Hierarchy}
+use Rattle.ale_hierarchy.proofs.LoopLemmas.{drop_item}
 use Rattle.ale_logic.specs.Descriptions.{description, FitsDescription}
 use Rattle.ale_resolve.specs.declared.describing.Described.{Described}
 use Rattle.ale_load.specs.declared.grammar.Passed.{Passed}

@@ -1,8 +1,8 @@
 -- What a run of a job gives, from the defined output and the laws of the layers below.
 use Rattle.std.proofs.Common.{◌≡◌, ◌↔◌, ◌⊎◌, ℕ, List, [], ◌∷◌, length, Option, Some, inl, inr, refl, sym, ap, ◌∙◌, subst}
 use Rattle.ale_relation.specs.Has.{Has}
-use Rattle.ale_signature.specs.Hierarchy.{Hierarchy}
-use Rattle.ale_signature.specs.Order.{hierarchy}
+use Rattle.ale_hierarchy.specs.Hierarchy.{Hierarchy}
+use Rattle.ale_hierarchy.specs.Order.{hierarchy}
 use Rattle.ale_logic.specs.Descriptions.{FitsDescription}
 use Rattle.ale_logic.specs.Solutions.{SearchLaw, SearchLaws}
 use Rattle.ale_load.specs.Grammars.{LoadedData}

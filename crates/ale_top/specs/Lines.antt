@@ -7,8 +7,8 @@ use Rattle.ale_token.specs.declared.token.TokenError.{TokenError}
 use Rattle.ale_token.specs.declared.token.TokenError.TheVariants as token
 use Rattle.ale_form.specs.declared.error.FormError.{FormError}
 use Rattle.ale_form.specs.declared.error.FormError.TheVariants as form
-use Rattle.ale_signature.specs.declared.error.SigError.{SigError}
-use Rattle.ale_signature.specs.declared.error.SigError.TheVariants as signature
+use Rattle.ale_hierarchy.specs.declared.error.SigError.{SigError}
+use Rattle.ale_hierarchy.specs.declared.error.SigError.TheVariants as signature
 use Rattle.ale_resolve.specs.declared.error.NameError.{NameError}
 use Rattle.ale_resolve.specs.declared.error.NameError.TheVariants as name
 use Rattle.ale_print.specs.Naming.{printed_name}

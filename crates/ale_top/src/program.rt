@@ -3,7 +3,7 @@ ghost use Rattle.std.specs.Option.{option_map};
 ghost use Rattle.ale_base.specs.Faults.{OnlyWhereRose};
 ghost use Rattle.ale_top.specs.Jobs.{Job, job_of, begins_with_dash, usage};
 ghost use Rattle.ale_top.specs.Named.{job_named};
-ghost use Rattle.ale_signature.specs.Order.{hierarchy};
+ghost use Rattle.ale_hierarchy.specs.Order.{hierarchy};
 ghost use Rattle.ale_logic.specs.Descriptions.{HasNoChoice, parts};
 ghost use Rattle.ale_logic.specs.Searches.{BudgetLaw};
 ghost use Rattle.ale_logic.specs.States.{start};
@@ -112,6 +112,7 @@ fn run_job<F: Files, W: Sink>(
     ensures read_fault { OnlyWhereRose (F.faults files.old) (F.faults files.new) (result ≡ Status.ReadFault) }
     ensures write_fault { OnlyWhereRose (W.faults out.old) (W.faults out.new) (result ≡ Status.WriteFault) }
     ensures in_form { result ≢ Status.Words }
+    ensures unread { result ≡ Status.ReadFault → (W.written out.new ≡ W.written out.old) × (W.faults out.new ≡ W.faults out.old) }
 {
     let grammar = match read_input(alloc, files, names.grammar) {
         Ok(grammar) => grammar,
@@ -159,6 +160,10 @@ pub fn run<F: Files, W: Sink>(alloc: Global, words: &[String], files: &mut F, ou
         → IsExactly result Status.Unfinished (Unfinishes g c default_budget) }
     ensures read_fault { OnlyWhereRose (F.faults files.old) (F.faults files.new) (result ≡ Status.ReadFault) }
     ensures write_fault { OnlyWhereRose (W.faults out.old) (W.faults out.new) (result ≡ Status.WriteFault) }
+
+    // A fault of the files comes only of words that stand for a job, and before the sink is called.
+    ensures unread { result ≡ Status.ReadFault → (job_of (map string_bytes words.now) ≢ None)
+        × (W.written out.new ≡ W.written out.old) × (W.faults out.new ≡ W.faults out.old) }
 
     // What the answers mean.
     ensures sound { OfEachSearch (map string_bytes words.now) (F.content files.old) default_budget

@@ -1,6 +1,6 @@
 //! The report on a grammar and its commands.
 ghost use Rattle.std.specs.Prelude.{◌≡◌, ◌≢◌, ◌++◌, ℕ, List, Ok, Err, IfOk, OnOk, map, string_bytes};
-ghost use Rattle.ale_signature.specs.Order.{hierarchy};
+ghost use Rattle.ale_hierarchy.specs.Order.{hierarchy};
 ghost use Rattle.ale_load.specs.declared.grammar_error.GrammarError.TheVariants as grammar;
 ghost use Rattle.ale_load.specs.declared.command_error.CommandError.TheVariants as command;
 ghost use Rattle.ale_load.specs.Grammars.{load_of};

@@ -1,6 +1,6 @@
 -- What was written and whether all ended so far, before what the commands that are left give.
 use Rattle.std.proofs.Common.{◌≡◌, ◌++◌, ◌&&◌, suc, map, drop, string_bytes}
-use Rattle.ale_signature.specs.Order.{hierarchy}
+use Rattle.ale_hierarchy.specs.Order.{hierarchy}
 use Rattle.ale_load.specs.Commands.{AllFit}
 use Rattle.ale_load.specs.Views.{query_data}
 use Rattle.ale_top.specs.Output.{commands_text, all_finished}
