@@ -1,7 +1,7 @@
-use crate::made::{
-    closed, e_list, has_types, hd, kind, list, lists, ne_list, signature_of, text, tl,
-};
 use ale_graph::{Closed, Fact};
+use ale_samples::{
+    closed, e_list, has_types, hd, kind, list, lists, ne_list, numbered, signature_of, text, tl,
+};
 use ale_signature::{FeatId, SigDecl, Signature, TypeId};
 use ale_text::Text;
 use std::alloc::{AllocError, Global};
@@ -97,11 +97,6 @@ fn two_apart(alloc: Global, other: usize) -> Result<Option<Closed>, AllocError> 
     facts.push(Fact::Value(0, tl(), 1))?;
     facts.push(Fact::Value(other, tl(), 2))?;
     closed(alloc, &sig, facts.as_slice(), 4)
-}
-
-/// The letter, and the number in decimal.
-fn numbered(alloc: Global, letter: &str, number: usize) -> Result<Text, AllocError> {
-    Ok(Text::of(format!(in alloc; "{letter}{number}")?))
 }
 
 /// `over intro [feature:under].`

@@ -1,4 +1,4 @@
-use crate::made::text;
+use ale_samples::text;
 use ale_text::Row;
 use std::alloc::{AllocError, Global};
 

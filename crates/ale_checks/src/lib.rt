@@ -5,5 +5,3 @@
 mod closures;
 #[cfg(test)]
 mod copies;
-#[cfg(test)]
-mod made;

@@ -1,6 +1,7 @@
-use crate::made::{graph_of, has_types, hd, list, lists, ne_list, tl};
+use crate::made::graph_of;
 use ale_graph::{Fact, Graph};
 use ale_morphism::{is_rooted, subsumes, types_inside, visible};
+use ale_samples::{has_types, hd, list, lists, ne_list, tl};
 use ale_signature::{FeatId, Signature, TypeId};
 use std::alloc::{AllocError, Global};
 

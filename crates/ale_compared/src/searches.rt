@@ -1,5 +1,5 @@
-use crate::made::{lists, ne_list};
 use ale_logic::Desc;
+use ale_samples::{lists, ne_list};
 use ale_search::{Found, find};
 use ale_signature::{Signature, TypeId};
 use std::alloc::{AllocError, Global};

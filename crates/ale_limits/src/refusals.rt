@@ -1,18 +1,8 @@
-use crate::made::{Built, above, above_two, build, kind, refusal, text, with};
+use crate::made::{Built, above_two, build, refusal};
+use ale_samples::{above, list_decls, text, with};
 use ale_signature::{SigDecl, SigError};
 use ale_text::Row;
 use std::alloc::{AllocError, Global};
-
-/// `list sub [e_list, ne_list]. ne_list intro [hd:bot, tl:list].`
-fn lists(alloc: Global) -> Result<Vec<SigDecl>, AllocError> {
-    let mut intros = Vec::new(alloc);
-    intros.push((text(alloc, "hd")?, text(alloc, "bot")?))?;
-    intros.push((text(alloc, "tl")?, text(alloc, "list")?))?;
-    let mut decls = Vec::new(alloc);
-    decls.push(above_two(alloc, "list", "e_list", "ne_list")?)?;
-    decls.push(kind(text(alloc, "ne_list")?, Vec::new(alloc), intros))?;
-    Ok(decls)
-}
 
 /// Two declarations.
 fn two(
@@ -105,7 +95,7 @@ fn no_declarations(rt: HostRuntime) -> Result<(), AllocError> {
 
 #[test]
 fn lists_with_heads_and_tails(rt: HostRuntime) -> Result<(), AllocError> {
-    let decls = lists(rt.alloc())?;
+    let decls = list_decls(rt.alloc())?;
     let built = build(rt.alloc(), decls.as_slice());
     assert_eq!(rt; built, Built::Accepted);
     Ok(())

@@ -1,4 +1,5 @@
-use crate::made::{Built, above, build, kind, numbered, refusal, text, with};
+use crate::made::{Built, build, refusal};
+use ale_samples::{above, kind, numbered, text, with};
 use ale_signature::{SigDecl, SigError};
 use ale_text::Text;
 use std::alloc::{AllocError, Global};

@@ -1,8 +1,8 @@
 //! Commands that are read, and the refusals of others.
-use crate::made::lists;
 use crate::meanings::{push_described, push_name_error};
 use ale_load::{CommandError, commands_law, read_commands};
 use ale_resolve::Described;
+use ale_samples::lists;
 use std::alloc::{AllocError, Global};
 
 /// Writes what commands ask for.

@@ -1,7 +1,8 @@
 //! Descriptions whose names are looked up.
-use crate::made::{lists, term_of};
+use crate::made::term_of;
 use ale_logic::Desc;
 use ale_resolve::{Described, NameError, describe, has_few_parts, is_plain};
+use ale_samples::lists;
 use ale_signature::{FeatId, Signature};
 use ale_term::Term;
 use std::alloc::{AllocError, Global};

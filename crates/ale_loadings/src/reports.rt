@@ -1,7 +1,8 @@
 //! The part of the output that a command has.
-use crate::made::{lists, term_of};
+use crate::made::term_of;
 use ale_report::push_command;
 use ale_resolve::{describe, has_few_parts, is_plain};
+use ale_samples::lists;
 use ale_signature::Signature;
 use ale_term::Term;
 use std::alloc::{AllocError, Global};

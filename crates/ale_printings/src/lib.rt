@@ -2,8 +2,6 @@
 #![tactic(auto)]
 
 #[cfg(test)]
-mod made;
-#[cfg(test)]
 mod names;
 #[cfg(test)]
 mod structures;

@@ -1,44 +1,16 @@
 //! Structures as they are printed.
-ghost use Rattle.std.specs.Prelude.{◌≡◌, IsTrue, IfOk, IfSome};
+ghost use Rattle.std.specs.Prelude.{◌≡◌, IfOk, IfSome};
 ghost use Rattle.ale_hierarchy.specs.Hierarchy.{Hierarchy};
 ghost use Rattle.ale_hierarchy.specs.Order.{hierarchy};
-ghost use Rattle.ale_graph.specs.Facts.{Fits, FitsFact};
 ghost use Rattle.ale_graph.specs.Structures.{IsStructure, is_root};
 ghost use Rattle.ale_declared.specs.Lists.{every};
 
-use crate::made::{e_list, hd, list, lists, ne_list, one_feature, text, tl};
-use ale_graph::{Closed, Fact, Graph, close, closure_law};
+use ale_graph::{Closed, Fact, Graph};
 use ale_print::print_answer;
+use ale_samples::{closed, e_list, hd, list, lists, ne_list, signature_of, text, tl, with};
 use ale_signature::{Signature, TypeId};
 use ale_text::{Row, Text};
 use std::alloc::{AllocError, Global};
-
-/// Whether the fact speaks of nodes below `next`, and of types and features of the signature.
-#[tactic(auto, unfolding(ale_hierarchy::specs::Order::hierarchy))]
-fn speaks_of_known(sig: &Signature, fact: &Fact, next: usize) -> bool
-    ensures { IsTrue result → FitsFact (hierarchy sig.now) next fact.now }
-{
-    match fact {
-        Fact::OfType(node, of) => *node < next && of.index() < sig.type_count(),
-        Fact::Value(node, feature, value) => {
-            *node < next && feature.index() < sig.feat_count() && *value < next
-        }
-        Fact::Same(one, other) => *one < next && *other < next,
-        Fact::Differ(one, other) => *one < next && *other < next,
-    }
-}
-
-/// Whether all of the facts do.
-fn speak_of_known(sig: &Signature, facts: &[Fact], next: usize) -> bool
-    ensures { IsTrue result → Fits (hierarchy sig.now) facts.now next }
-{
-    for fact in facts {
-        if !speaks_of_known(sig, fact, next) {
-            return false;
-        }
-    }
-    true
-}
 
 /// The graph of the closure of facts that speak of what is known; None where they do not, or where there is none.
 fn graph_of(
@@ -49,15 +21,10 @@ fn graph_of(
 ) -> Result<Option<Graph>, AllocError>
     ensures { IfOk result (λ o. IfSome o (IsStructure (hierarchy sig.now))) }
 {
-    closure_law();
-    let _ = sig.type_count();
-    if !speak_of_known(sig, facts, next) {
-        return Ok(None);
-    }
-    match close(alloc, sig, facts, next)? {
+    match closed(alloc, sig, facts, next)? {
         None => Ok(None),
-        Some(closed) => {
-            let Closed { graph, .. } = closed;
+        Some(found) => {
+            let Closed { graph, .. } = found;
             Ok(Some(graph))
         }
     }
@@ -133,6 +100,13 @@ fn printed_list(
         Some(sig) => printed(alloc, &sig, facts, next, roots, names.as_slice()),
         None => String::from_str(alloc, "no signature"),
     }
+}
+
+/// The signature of one type with one feature.
+fn one_feature(alloc: Global, name: &str, feature: &str) -> Result<Option<Signature>, AllocError> {
+    let mut decls = Vec::new(alloc);
+    decls.push(with(alloc, name, feature, "bot")?)?;
+    Ok(signature_of(alloc, decls.as_slice()))
 }
 
 /// The text of a node of the only type.

@@ -2,6 +2,7 @@
 ghost use Rattle.std.specs.List.{All};
 ghost use Rattle.ale_token.specs.Places.{Stands};
 
+use crate::brackets::nested;
 use crate::shown_forms::push_commanded;
 use ale_command::{one_command, read_command};
 use ale_token::{Token, tokens};
@@ -28,19 +29,6 @@ fn commanded(alloc: Global, text: &str) -> Result<String, AllocError> {
         Err(_) => out.push_str("no tokens")?,
     }
     Ok(out)
-}
-
-/// A command with a type in so many pairs of brackets.
-fn nested(alloc: Global, depth: u32) -> Result<String, AllocError> {
-    let mut text = String::from_str(alloc, "mgsat ")?;
-    for _ in 0..depth {
-        text.push_str("(")?;
-    }
-    text.push_str("a")?;
-    for _ in 0..depth {
-        text.push_str(")")?;
-    }
-    Ok(text)
 }
 
 #[test]
@@ -98,7 +86,7 @@ fn refused(rt: HostRuntime) -> Result<(), AllocError> {
 #[test]
 fn nested_too_deep(rt: HostRuntime) -> Result<(), AllocError> {
     for (depth, want) in [(200, "mgsat (type a)"), (201, "TooDeep")] {
-        let text = nested(rt.alloc(), depth)?;
+        let text = nested(rt.alloc(), "mgsat ", depth)?;
         let got = commanded(rt.alloc(), text.as_str())?;
         assert_eq!(rt; got.as_str(), want, "{depth}");
     }

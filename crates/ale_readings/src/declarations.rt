@@ -1,4 +1,5 @@
 //! Declarations, each form of them, and each refusal.
+use crate::brackets::nested;
 use crate::shown_forms::push_declared;
 use ale_declaration::{one_declaration, read_declaration};
 use ale_token::tokens;
@@ -12,19 +13,6 @@ fn declared(alloc: Global, text: &str) -> Result<String, AllocError> {
         Err(_) => out.push_str("no tokens")?,
     }
     Ok(out)
-}
-
-/// So many brackets behind a word.
-fn nested(alloc: Global, depth: u32) -> Result<String, AllocError> {
-    let mut text = String::from_str(alloc, "w ---> ")?;
-    for _ in 0..depth {
-        text.push_str("(")?;
-    }
-    text.push_str("a")?;
-    for _ in 0..depth {
-        text.push_str(")")?;
-    }
-    Ok(text)
 }
 
 #[test]
@@ -151,7 +139,7 @@ fn refused(rt: HostRuntime) -> Result<(), AllocError> {
 #[test]
 fn nested_too_deep(rt: HostRuntime) -> Result<(), AllocError> {
     for (depth, want) in [(200, "word w (type a)"), (201, "TooDeep")] {
-        let text = nested(rt.alloc(), depth)?;
+        let text = nested(rt.alloc(), "w ---> ", depth)?;
         let got = declared(rt.alloc(), text.as_str())?;
         assert_eq!(rt; got.as_str(), want, "{depth}");
     }

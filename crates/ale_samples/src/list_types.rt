@@ -1,6 +1,6 @@
-//! Signatures.
+//! The signature of lists.
+use crate::signatures::{kind, signature_of, text};
 use ale_signature::{FeatId, SigDecl, Signature, TypeId};
-use ale_text::{Row, Text};
 use std::alloc::{AllocError, Global};
 
 /// The type `list` of `lists`.
@@ -28,20 +28,6 @@ pub fn tl() -> FeatId {
     FeatId::of(1)
 }
 
-/// A text of these characters.
-pub fn text(alloc: Global, characters: &str) -> Result<Text, AllocError> {
-    Ok(Text::of(String::from_str(alloc, characters)?))
-}
-
-/// `name sub subs intro intros.`
-fn kind(name: Text, subs: Vec<Text>, intros: Vec<(Text, Text)>) -> SigDecl {
-    SigDecl::Kind {
-        name,
-        subs: Row::of(subs),
-        intros: Row::of(intros),
-    }
-}
-
 /// `list sub [e_list, ne_list].`
 fn list_kind(alloc: Global) -> Result<SigDecl, AllocError> {
     let mut subs = Vec::new(alloc);
@@ -58,31 +44,16 @@ fn node_kind(alloc: Global) -> Result<SigDecl, AllocError> {
     Ok(kind(text(alloc, "ne_list")?, Vec::new(alloc), intros))
 }
 
-/// The signature of declarations; None where they are refused.
-fn signature_of(alloc: Global, decls: &[SigDecl]) -> Option<Signature> {
-    match Signature::build(alloc, decls) {
-        Ok(sig) => Some(sig),
-        Err(_) => None,
-    }
+/// `list sub [e_list, ne_list]. ne_list intro [hd:bot, tl:list].`
+pub fn list_decls(alloc: Global) -> Result<Vec<SigDecl>, AllocError> {
+    let mut decls = Vec::new(alloc);
+    decls.push(list_kind(alloc)?)?;
+    decls.push(node_kind(alloc)?)?;
+    Ok(decls)
 }
 
 /// The signature of lists.
 pub fn lists(alloc: Global) -> Result<Option<Signature>, AllocError> {
-    let mut decls = Vec::new(alloc);
-    decls.push(list_kind(alloc)?)?;
-    decls.push(node_kind(alloc)?)?;
-    Ok(signature_of(alloc, decls.as_slice()))
-}
-
-/// The signature of one type with one feature.
-pub fn one_feature(
-    alloc: Global,
-    name: &str,
-    feature: &str,
-) -> Result<Option<Signature>, AllocError> {
-    let mut intros = Vec::new(alloc);
-    intros.push((text(alloc, feature)?, text(alloc, "bot")?))?;
-    let mut decls = Vec::new(alloc);
-    decls.push(kind(text(alloc, name)?, Vec::new(alloc), intros))?;
+    let decls = list_decls(alloc)?;
     Ok(signature_of(alloc, decls.as_slice()))
 }
