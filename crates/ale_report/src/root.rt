@@ -1,44 +1,12 @@
 //! The structure that an answer is printed as.
-ghost use Rattle.std.specs.Prelude.{◌≡◌, ◌<◌, slice_index_or, Some, [], ◌∷◌, IfOk};
-ghost use Rattle.ale_graph.specs.Closure.{place, node_of};
+ghost use Rattle.std.specs.Prelude.{◌≡◌, ◌<◌, Some, [], ◌∷◌, IfOk};
+ghost use Rattle.ale_graph.specs.Closure.{node_of};
 ghost use Rattle.ale_graph.specs.Structures.{count};
 ghost use Rattle.ale_report.specs.Parts.{rooted};
 
 use ale_graph::{Closed, Graph};
 use ale_text::Row;
 use std::alloc::{AllocError, Global};
-
-// The class of a node.
-fn class_at(class: &[usize], node: usize) -> usize
-    ensures { result ≡ slice_index_or class.now node node }
-{
-    if node < class.len() {
-        class[node]
-    } else {
-        node
-    }
-}
-
-// The number that a class has among the classes.
-fn number_of(class: &[usize], top: usize) -> usize
-    ensures { result ≡ place (λ a. slice_index_or class.now a a) top }
-{
-    let mut count = 0;
-    for node in 0..top {
-        if class_at(class, node) == node {
-            count += 1;
-        }
-    }
-    count
-}
-
-// The number of the node at which the description holds.
-fn root_of(closed: &Closed) -> usize
-    ensures { result ≡ node_of closed.now 0 }
-{
-    let class = closed.class.as_slice();
-    number_of(class, class_at(class, 0))
-}
 
 // The roots of an answer: the node at which the description holds.
 fn roots(alloc: Global, root: usize) -> Result<Row<Option<usize>>, AllocError>
@@ -54,7 +22,7 @@ pub(crate) fn rooted(alloc: Global, closed: Closed) -> Result<Graph, AllocError>
     requires { node_of closed 0 < count closed.graph }
     ensures { IfOk result (λ g. g ≡ rooted closed) }
 {
-    let root = root_of(&closed);
+    let root = closed.node_of(0);
     let roots = roots(alloc, root)?;
     let Closed { graph, .. } = closed;
     let Graph { nodes, differ, .. } = graph;

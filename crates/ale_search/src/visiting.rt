@@ -1,4 +1,4 @@
-ghost use Rattle.std.specs.Prelude.{◌≡◌, IfOk, slice_index_or, length, [], ◌∷◌};
+ghost use Rattle.std.specs.Prelude.{◌≡◌, IfOk, length, [], ◌∷◌};
 ghost use Rattle.ale_hierarchy.specs.Order.{hierarchy};
 ghost use Rattle.ale_graph.specs.Filling.{class_value};
 ghost use Rattle.ale_graph.specs.Closure.{class_of};
@@ -27,29 +27,17 @@ pub enum Visited<'a> {
     Goes(Vec<State<'a>>),
 }
 
-/// The class of a node.
-fn class_at(class: &[usize], node: usize) -> usize
-    ensures { result ≡ slice_index_or class.now node node }
-{
-    if node < class.len() {
-        class[node]
-    } else {
-        node
-    }
-}
-
 /// The class that is the value of the node's class by the feature.
 fn value_at(closed: &Closed, node: usize, feature: &FeatId) -> Option<usize>
     ensures { result ≡ class_value (class_of closed.now) closed.now.facts (class_of closed.now node) feature.now }
 {
-    let class = closed.class.as_slice();
-    let at = class_at(class, node);
+    let at = closed.class_of(node);
     for fact in closed.facts.as_slice() {
         if let Fact::Value(from, by, to) = fact
             && by.index() == feature.index()
-            && class_at(class, *from) == at
+            && closed.class_of(*from) == at
         {
-            return Some(class_at(class, *to));
+            return Some(closed.class_of(*to));
         }
     }
     None
