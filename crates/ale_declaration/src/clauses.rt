@@ -8,10 +8,10 @@ ghost use Rattle.ale_declaration.specs.Declarations.{declaration_data};
 ghost use Rattle.ale_declaration.specs.Reading.{goal_behind, constraint_of, parameters_at, macro_of, clause_of, word_of, empty_of, semantics_of};
 
 use crate::declaration::Declaration;
-use crate::list::{are_distinct, joined};
+use crate::list::are_distinct;
 use ale_form::{ended, whole_description, whole_goal};
 use ale_term::{
-    GoalTerm, Lexeme, ReadError, Symbol, add, atom_at, call, description, past, past_word,
+    GoalTerm, Lexeme, ReadError, Symbol, add, atom_at, call, description, joined, past, past_word,
     variable_at,
 };
 use ale_text::{Row, Text};

@@ -8,17 +8,6 @@ use ale_term::{Lexeme, ReadError, add, atoms};
 use ale_text::{Row, Text};
 use std::alloc::{AllocError, Global};
 
-// The first item and the others, in order.
-pub(crate) fn joined<T: Drop>(alloc: Global, first: T, others: Vec<T>) -> Result<Vec<T>, ReadError>
-    ensures { Gives (λ v. v.items) result (Some (first ∷ others.items)) }
-{
-    let mut others = others;
-    let mut all = Vec::new(alloc);
-    add(&mut all, first)?;
-    all.append(&mut others)?;
-    Ok(all)
-}
-
 // Puts the others behind the items, in order.
 pub(crate) fn extend<T: Drop>(items: &mut Vec<T>, others: Vec<T>) -> Result<(), AllocError>
     ensures { OnOk result (items.new.items ≡ items.old.items ++ others.items) }

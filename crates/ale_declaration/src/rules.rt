@@ -9,11 +9,10 @@ ghost use Rattle.ale_declaration.specs.Reading.{condition_at, line_at, lines_of,
 
 use crate::declaration::{Declaration, MorphLine, Part};
 use crate::lines::line;
-use crate::list::joined;
 use ale_form::ended;
 use ale_term::{
     GoalTerm, Lexeme, ReadError, Symbol, add, atom_at, description, element, goal, goal_element,
-    past, past_word,
+    joined, past, past_word,
 };
 use ale_text::{Row, Text};
 use sqlite_items::Items;

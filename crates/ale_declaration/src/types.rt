@@ -7,10 +7,10 @@ ghost use Rattle.ale_declaration.specs.Declarations.{declaration_data};
 ghost use Rattle.ale_declaration.specs.Reading.{restriction_at, restrictions_of, introduced_of, kind_of, types_of, extensional_of};
 
 use crate::declaration::Declaration;
-use crate::list::{joined, some_atoms};
+use crate::list::some_atoms;
 use ale_declared::SigDecl;
 use ale_form::ended;
-use ale_term::{Lexeme, ReadError, Symbol, add, atom_at, atoms, past, past_word};
+use ale_term::{Lexeme, ReadError, Symbol, add, atom_at, atoms, joined, past, past_word};
 use ale_text::{Row, Text};
 use std::alloc::Global;
 

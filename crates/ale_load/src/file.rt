@@ -16,7 +16,7 @@ use ale_token::{Token, TokenError, cut_declarations, tokens};
 use std::alloc::Global;
 
 /// The most bytes that a file may have.
-const FILE_LIMIT: usize = 4_194_304;
+pub const FILE_LIMIT: usize = 4_194_304;
 
 // A text that is cut: its tokens, and the range of them that each part has.
 #[derive(Drop)]

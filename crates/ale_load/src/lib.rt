@@ -11,6 +11,7 @@ mod grammar_error;
 
 pub use command_error::CommandError;
 pub use commands::{commands_law, read_commands};
+pub use file::FILE_LIMIT;
 pub use file_error::FileError;
 pub use grammar::{Loaded, Passed, load, load_law};
 pub use grammar_error::GrammarError;

@@ -23,7 +23,7 @@ pub use goal_term::GoalTerm;
 pub use laws::one_reading;
 pub use lexeme::Lexeme;
 pub use lexer::lexemes;
-pub use list::add;
+pub use list::{add, joined};
 pub use place::{atom_at, past, past_word, variable_at};
 pub use read::{atoms, call, description, element, goal, goal_element};
 pub use symbol::Symbol;

@@ -19,8 +19,12 @@ pub fn add<T: Drop>(items: &mut Vec<T>, item: T) -> Result<(), AllocError>
     Ok(())
 }
 
-// The first item and the others, in order.
-pub(crate) fn joined<T: Drop>(alloc: Global, first: T, others: Vec<T>) -> Result<Vec<T>, ReadError>
+/// The first item and the others, in order.
+///
+/// # Errors
+///
+/// `NoMemory` where memory runs out.
+pub fn joined<T: Drop>(alloc: Global, first: T, others: Vec<T>) -> Result<Vec<T>, ReadError>
     ensures { Gives (λ v. v.items) result (Some (first ∷ others.items)) }
 {
     let mut others = others;

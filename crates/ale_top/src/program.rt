@@ -15,12 +15,9 @@ ghost use Rattle.ale_top.specs.Runs.{Wrote, IsEarly, IsOwed, IsExactly, IsAccept
 use crate::running::{Input, report_on};
 use crate::status::Status;
 use ale_base::{Files, ReadError, Sink, read_all, write_all};
-use ale_load::{commands_law, load_law};
+use ale_load::{FILE_LIMIT, commands_law, load_law};
 use ale_logic::search_law;
 use std::alloc::Global;
-
-/// The most bytes that a file may have.
-const FILE_LIMIT: usize = 4_194_304;
 
 const USAGE: &str = "usage: ale [--budget N] GRAMMAR COMMANDS | ale [--budget N] --made N\n";
 
