@@ -24,7 +24,7 @@ use Rattle.ale_graph.proofs.Filling.{fill_is}
 use Rattle.ale_graph.proofs.Collapsing.{IsCollapsed, collapse_is}
 use Rattle.ale_graph.proofs.Places.{place_one}
 use Rattle.ale_graph.proofs.Graphs.{AllApart, node_in, class_at, value_back, value_class, class_fits, node_type, graph_structure, graph_fulfils}
-use Rattle.ale_graph.proofs.Universal.{class_is, classes_eq, nodes_eq, node_of_is, universal}
+use Rattle.ale_graph.proofs.Universal.{class_is, classes_eq, nodes_eq, node_of_is, carried, universal}
 
 module _ (h : Hierarchy) (given : List Fact) (before : ℕ) (law : IsLawful h) (st : Filled) (k : IsCollapsed h given before st) where
   closing : IsClosing h given before st
@@ -51,6 +51,7 @@ module _ (h : Hierarchy) (given : List Fact) (before : ℕ) (law : IsLawful h) (
     told = told;
     structure = graph_structure h given before law st k apart;
     fulfils = subst (λ (z : ℕ → ℕ). Fulfils h (graph_of h st) z st.facts st.next) (sym (nodes_eq h st closing.classes)) (graph_fulfils h given before law st k apart);
+    carried = carried h given before law st k apart;
     universal = universal h given before law st k apart;
   }
     where

@@ -53,6 +53,14 @@ back h g s node facts next f law fits ok pairs is = record { into = λ a lt. is.
     holds (Same a b) p fit k = ap f k
     holds (Differ a b) p fit k = is.differs (node a) (node b) (pairs a b p)
 
+module _ (h : Hierarchy) (given : List Fact) (before : ℕ) (law : IsLawful h) (st : Filled) (k : IsCollapsed h given before st) (apart : AllApart st) where
+  -- the facts hold wherever the classes' graph goes by a morphism
+  goes : (s : Structure) (map : ℕ → ℕ) → IsMorphismAside h (graph_of h st) s map → Fulfils h s (λ a. map (node_in st a)) st.facts st.next
+  goes s map is = back h (graph_of h st) s (node_in st) st.facts st.next map law k.filled.closing.fits (graph_fulfils h given before law st k apart) (λ a b p. differ_to st.class st.facts a b p) is
+
+  pub carried : (s : Structure) (map : ℕ → ℕ) → IsMorphismAside h (graph_of h st) s map → Fulfils h s (λ a. map (node_of (closed_of h st) a)) st.facts st.next
+  carried s map is = subst (λ (z : ℕ → ℕ). Fulfils h s (λ a. map (z a)) st.facts st.next) (sym (nodes_eq h st k.filled.closing.classes)) (goes s map is)
+
 module _ (h : Hierarchy) (given : List Fact) (before : ℕ) (law : IsLawful h) (st : Filled) (k : IsCollapsed h given before st) (apart : AllApart st) (s : Structure) (at : ℕ → ℕ) (of : IsStructure h s) (ok : Fulfils h s at given before) where
   closing : IsClosing h given before st
   closing = k.filled.closing
@@ -111,8 +119,7 @@ module _ (h : Hierarchy) (given : List Fact) (before : ℕ) (law : IsLawful h) (
   only : (g : ℕ → ℕ) → IsMorphismAside h (graph_of h st) s g → ((a : ℕ) → a < before → g (node_in st a) ≡ at a) → Agree (count (graph_of h st)) g to
   only g is agree n lt =
       let c = class_at h given before law st k apart n lt in
-      let full = back h (graph_of h st) s (node_in st) st.facts st.next g law closing.fits (graph_fulfils h given before law st k apart) (λ a b p. differ_to st.class st.facts a b p) is in
-      let one : g (node_in st c.class) ≡ e.new c.class = e.only (λ a. g (node_in st a)) agree full c.class c.below in
+      let one : g (node_in st c.class) ≡ e.new c.class = e.only (λ a. g (node_in st a)) agree (goes h given before law st k apart s g is) c.class c.below in
       let node : node_in st c.class ≡ n = ap (place st.class) c.own ∙ c.place_is in
       ap g (sym node) ∙ one ∙ sym (to_at n c)
 

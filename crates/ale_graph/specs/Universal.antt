@@ -55,6 +55,8 @@ pub record IsClosure (h : Hierarchy) (given : List Fact) (before : ℕ) (c : Clo
   -- the graph is total, extensional and kept apart, and the facts hold in it
   pub structure : IsStructure h c.graph
   pub fulfils : Fulfils h c.graph (node_of c) c.facts c.next
+  -- they hold wherever the graph goes by a morphism
+  pub carried : (s : Structure) (map : ℕ → ℕ) → IsMorphismAside h c.graph s map → Fulfils h s (λ a. map (node_of c a)) c.facts c.next
   pub universal : (s : Structure) (at : ℕ → ℕ) → IsStructure h s → Fulfils h s at given before → IsUniversal h c s at before
 
 abbrev pub ClosesTo : Hierarchy → List Fact → ℕ → Option Closed → Type 0

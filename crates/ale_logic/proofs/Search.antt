@@ -15,7 +15,7 @@ use Rattle.ale_logic.specs.declared.answer.Answer.{Answer}
 use Rattle.ale_logic.specs.Descriptions.{Description, Descriptions, of_type, slot, at, all, any, meet, none, more, FitsDescription}
 use Rattle.ale_logic.specs.States.{Demand, holds, meets, leads, Item, on, take, Environment, bound, State, start, HoldItems, IsBound, Satisfies, FitItems, IsBelow, IsState}
 use Rattle.ale_logic.specs.Visits.{leading, meeting, binding, choices, taken, kids, visit_of, visit, after, search}
-use Rattle.ale_logic.specs.Solutions.{IsAnswer, AnswersAreSolutions, SolutionsAreAnswered, SearchLaws}
+use Rattle.ale_logic.specs.Solutions.{IsSolution, AnswersAreSolutions, SolutionsAreAnswered, SubsumedAreSolutions, SearchLaws}
 use Rattle.ale_logic.specs.Searches.{IsReached, ComesFrom, AreStates, RunLaws}
 use Rattle.ale_logic.proofs.Environments.{none_bound}
 use Rattle.ale_logic.proofs.Step.{items_agree, sole, kid_up, kid_down, kid_fits}
@@ -144,7 +144,7 @@ comes h law closes (suc left) (x ∷ xs) states c has =
     below = (states x (inl refl)).below
 
     later_on : ComesFrom h xs c → ComesFrom h (x ∷ xs) c
-    later_on r = record { state = r.state; has = inr r.has; structure = r.structure; fulfils = r.fulfils; below = r.below; back = r.back }
+    later_on r = record { state = r.state; has = inr r.has; structure = r.structure; fulfils = r.fulfils; carried = r.carried; below = r.below; back = r.back }
 
     Later : Type 0
     Later = (ys : List State) → AreStates h ys → Has (search h left ys).answers c → ComesFrom h ys c
@@ -157,6 +157,7 @@ comes h law closes (suc left) (x ∷ xs) states c has =
           has = inl refl;
           structure = k.structure;
           fulfils = k.fulfils;
+          carried = k.carried;
           below = λ v n b. let low = below v n b in omega arith;
           back = λ s assign to ful is_bound. record {
             fulfils = fulfils_given h x.facts x.next d k s to ful;
@@ -179,12 +180,13 @@ comes h law closes (suc left) (x ∷ xs) states c has =
             has = inl refl;
             structure = r.structure;
             fulfils = r.fulfils;
+            carried = r.carried;
             below = r.below;
             back = λ s assign to ful is_bound.
                 let q = kid_down h x.facts x.next d k s assign to x.env i is fit.0 r.state p (r.back s assign to ful is_bound) in
                 record { fulfils = fulfils_given h x.facts x.next d k s to q.fulfils; is_bound = q.is_bound; items = subst (HoldItems h s assign to) (sym e) q.items };
           }
-          | inr p ↦ record { state = r.state; has = inr p; structure = r.structure; fulfils = r.fulfils; below = r.below; back = r.back }
+          | inr p ↦ record { state = r.state; has = inr p; structure = r.structure; fulfils = r.fulfils; carried = r.carried; below = r.below; back = r.back }
         ]
 
 starts : (h : Hierarchy) (slots : ℕ) (d : Description) → FitsDescription h slots d → AreStates h (start slots d ∷ [])
@@ -195,32 +197,45 @@ starts h slots d fit st (inl e) = subst (IsState h) (sym e) (record {
 })
 starts h slots d fit st (inr e) = absurd e
 
--- the node of each slot: where its variable is bound, and node 0 elsewhere
-abbrev assigned : Answer → ℕ → ℕ
-assigned c v = node_of c.closed (elim (bound c.env v) [ None ↦ 0 | Some n ↦ n ])
+-- the node of each slot: that of its variable, and node 0 where it is not bound
+abbrev node_for : Answer → ℕ → ℕ
+node_for c v = elim (bound c.env v) [ None ↦ 0 | Some n ↦ n ]
+
+stands_for : (c : Answer) (to : ℕ → ℕ) → IsBound c.env (λ v. to (node_for c v)) to
+stands_for c to v n e = ap (λ (o : Option ℕ). to (elim o [ None ↦ 0 | Some m ↦ m ])) e
+
+-- whatever fulfils the facts of an answer is a solution
+solves : (h : Hierarchy) (slots : ℕ) (d : Description) (c : Answer) → ComesFrom h (start slots d ∷ []) c → (s : Structure) → IsStructure h s → (to : ℕ → ℕ) → Fulfils h s to c.closed.facts c.closed.next → IsSolution h d s (to 0) (λ v. to (node_for c v))
+solves h slots d c r s str to ful =
+    let is : r.state ≡ start slots d = sole (start slots d) r.state r.has in
+    let assign : ℕ → ℕ = λ v. to (node_for c v) in
+    let q : Satisfies h s assign to (start slots d) = subst (Satisfies h s assign to) is (r.back s assign to ful (stands_for c to)) in
+    record { structure = str; node = q.fulfils.into 0 (omega arith); nodes = nodes (q.fulfils.into 0 (omega arith)); holds = q.items.0 }
+  where
+    nodes : to 0 < count s → (v : ℕ) → to (node_for c v) < count s
+    nodes low v = go (bound c.env v) refl
+      where
+        go : (o : Option ℕ) → bound c.env v ≡ o → to (elim o [ None ↦ 0 | Some n ↦ n ]) < count s
+        go None e = low
+        go (Some n) e = ful.into n (r.below v n e)
 
 sound : (h : Hierarchy) → IsLawful h → ClosureLaw → (slots : ℕ) (d : Description) (budget : ℕ) → FitsDescription h slots d → AnswersAreSolutions h d (search h budget (start slots d ∷ [])).answers
-sound h law closes slots d budget fit c has = go (comes h law closes budget (start slots d ∷ []) (starts h slots d fit) c has)
-  where
-    into : Fulfils h c.closed.graph (node_of c.closed) c.closed.facts c.closed.next → IsBelow c.closed.next c.env → node_of c.closed 0 < count c.closed.graph → (v : ℕ) → assigned c v < count c.closed.graph
-    into ful below first v = node (bound c.env v) refl
-      where
-        node : (o : Option ℕ) → bound c.env v ≡ o → node_of c.closed (elim o [ None ↦ 0 | Some n ↦ n ]) < count c.closed.graph
-        node None e = first
-        node (Some n) e = ful.into n (below v n e)
+sound h law closes slots d budget fit c has =
+    let r = comes h law closes budget (start slots d ∷ []) (starts h slots d fit) c has in
+    record {
+      assign = λ v. node_of c.closed (node_for c v);
+      is = solves h slots d c r c.closed.graph r.structure (node_of c.closed) r.fulfils;
+      is_bound = stands_for c (node_of c.closed);
+    }
 
-    agrees : IsBound c.env (assigned c) (node_of c.closed)
-    agrees v n e = ap (λ (o : Option ℕ). node_of c.closed (elim o [ None ↦ 0 | Some m ↦ m ])) e
-
-    go : ComesFrom h (start slots d ∷ []) c → IsAnswer h d c
-    go r =
-        let is : r.state ≡ start slots d = sole (start slots d) r.state r.has in
-        let q : Satisfies h c.closed.graph (assigned c) (node_of c.closed) (start slots d) = subst (Satisfies h c.closed.graph (assigned c) (node_of c.closed)) is (r.back c.closed.graph (assigned c) (node_of c.closed) r.fulfils agrees) in
-        record {
-          assign = assigned c;
-          is = record { structure = r.structure; node = q.fulfils.into 0 (omega arith); nodes = into r.fulfils r.below (q.fulfils.into 0 (omega arith)); holds = q.items.0 };
-          is_bound = agrees;
-        }
+subsumed : (h : Hierarchy) → IsLawful h → ClosureLaw → (slots : ℕ) (d : Description) (budget : ℕ) → FitsDescription h slots d → SubsumedAreSolutions h d (search h budget (start slots d ∷ [])).answers
+subsumed h law closes slots d budget fit c has s n str by =
+    let r = comes h law closes budget (start slots d ∷ []) (starts h slots d fit) c has in
+    let to : ℕ → ℕ = λ a. by.map (node_of c.closed a) in (
+      λ v. to (node_for c v),
+      subst (λ z. IsSolution h d s z (λ v. to (node_for c v))) by.root_to (solves h slots d c r s str to (r.carried s by.map by.is)),
+      stands_for c to,
+    )
 
 complete : (h : Hierarchy) → IsLawful h → ClosureLaw → (slots : ℕ) (d : Description) (budget : ℕ) → FitsDescription h slots d → (search h budget (start slots d ∷ [])).finished ≡ true → SolutionsAreAnswered h d (search h budget (start slots d ∷ [])).answers
 complete h law closes slots d budget fit fin s n assign sol =
@@ -233,6 +248,7 @@ pub search_law : ClosureLaw → SearchLaws
 search_law closes h slots d budget law fit = record {
   sound = sound h law closes slots d budget fit;
   complete = complete h law closes slots d budget fit;
+  subsumed = subsumed h law closes slots d budget fit;
   enough = enough h slots d budget;
   budgeted = budget_law h budget (start slots d ∷ []);
 }

@@ -37,13 +37,14 @@ pub record IsReached (h : Hierarchy) (s : Structure) (assign to : ℕ → ℕ) (
   pub agrees : (a : ℕ) → a < next → map (node_of answer.closed a) ≡ to a
   pub is_bound : IsBound answer.env assign (λ a. map (node_of answer.closed a))
 
--- The answer's facts hold in its graph, and whatever fulfils them satisfies one of the states, where the
--- assignment agrees with the answer's environment.
+-- The answer's facts hold in its graph, and in each structure into which that has a morphism; whatever fulfils
+-- them satisfies one of the states, where the assignment agrees with the answer's environment.
 pub record ComesFrom (h : Hierarchy) (sts : List State) (c : Answer) : Type 0 where
   pub state : State
   pub has : Has sts state
   pub structure : IsStructure h c.closed.graph
   pub fulfils : Fulfils h c.closed.graph (node_of c.closed) c.closed.facts c.closed.next
+  pub carried : (s : Structure) (map : ℕ → ℕ) → IsMorphismAside h c.closed.graph s map → Fulfils h s (λ a. map (node_of c.closed a)) c.closed.facts c.closed.next
   pub below : IsBelow c.closed.next c.env
   pub back : (s : Structure) (assign to : ℕ → ℕ) → Fulfils h s to c.closed.facts c.closed.next → IsBound c.env assign to → Satisfies h s assign to state
 

@@ -45,10 +45,17 @@ abbrev pub SolutionsAreAnswered : Hierarchy → Description → List Answer → 
 SolutionsAreAnswered h d cs =
     (s : Structure) (n : ℕ) (assign : ℕ → ℕ) → IsSolution h d s n assign → (c : Answer) × Has cs c × SubsumesSolution h c s n assign
 
+-- each structure that an answer subsumes is a solution, where each bound variable stands for where its node goes
+abbrev pub SubsumedAreSolutions : Hierarchy → Description → List Answer → Type 0
+SubsumedAreSolutions h d cs =
+    (c : Answer) → Has cs c → (s : Structure) (n : ℕ) → IsStructure h s → (by : SubsumesAt h c.closed.graph (node_of c.closed 0) s n) →
+    (assign : ℕ → ℕ) × IsSolution h d s n assign × IsBound c.env assign (λ a. by.map (node_of c.closed a))
+
 -- of a description whose variables have slots below `slots`
 pub record SearchLaw (h : Hierarchy) (slots : ℕ) (d : Description) (budget : ℕ) : Type 0 where
   pub sound : AnswersAreSolutions h d (search h budget (start slots d ∷ [])).answers
   pub complete : (search h budget (start slots d ∷ [])).finished ≡ true → SolutionsAreAnswered h d (search h budget (start slots d ∷ [])).answers
+  pub subsumed : SubsumedAreSolutions h d (search h budget (start slots d ∷ [])).answers
   -- without disjunction two visits for each part, and two to spare
   pub enough : HasNoChoice d → 2 * parts d + 2 ≤ budget → (search h budget (start slots d ∷ [])).finished ≡ true
   pub budgeted : BudgetLaw h budget (start slots d ∷ [])

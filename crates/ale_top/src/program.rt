@@ -7,7 +7,7 @@ ghost use Rattle.ale_hierarchy.specs.Order.{hierarchy};
 ghost use Rattle.ale_logic.specs.Descriptions.{HasNoChoice, parts};
 ghost use Rattle.ale_logic.specs.Searches.{BudgetLaw};
 ghost use Rattle.ale_logic.specs.States.{start};
-ghost use Rattle.ale_logic.specs.Solutions.{AnswersAreSolutions, SolutionsAreAnswered};
+ghost use Rattle.ale_logic.specs.Solutions.{AnswersAreSolutions, SolutionsAreAnswered, SubsumedAreSolutions};
 ghost use Rattle.ale_top.specs.Output.{Output, outcome};
 ghost use Rattle.ale_top.specs.Reports.{IsInput};
 ghost use Rattle.ale_top.specs.Runs.{Wrote, IsEarly, IsOwed, IsExactly, IsAcceptedGrammar, AreAccepted, Finishes, Unfinishes, Told, OfEachSearch, default_budget};
@@ -167,6 +167,8 @@ pub fn run<F: Files, W: Sink>(alloc: Global, words: &[String], files: &mut F, ou
         (λ d q o. AnswersAreSolutions (hierarchy d) q.0 o.answers) }
     ensures complete { OfEachSearch (map string_bytes words.now) (F.content files.old) default_budget
         (λ d q o. o.finished ≡ true → SolutionsAreAnswered (hierarchy d) q.0 o.answers) }
+    ensures subsumed { OfEachSearch (map string_bytes words.now) (F.content files.old) default_budget
+        (λ d q o. SubsumedAreSolutions (hierarchy d) q.0 o.answers) }
     ensures enough { OfEachSearch (map string_bytes words.now) (F.content files.old) default_budget
         (λ d q o. HasNoChoice q.0 → 2 * parts q.0 + 2 ≤ default_budget → o.finished ≡ true) }
     ensures budgeted { OfEachSearch (map string_bytes words.now) (F.content files.old) default_budget

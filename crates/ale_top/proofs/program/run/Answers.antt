@@ -71,6 +71,10 @@ pub returns-in-Some-clause-complete : goal.returns-in-Some-clause-complete
 returns-in-Some-clause-complete g c = λ g' c' told l qs asks q has.
     (asked_law c.search_law.ensures c.load_law.ensures.lawful c.commands_law.ensures.fit g' c' default_budget l qs asks q has).complete
 
+pub returns-in-Some-clause-subsumed : goal.returns-in-Some-clause-subsumed
+returns-in-Some-clause-subsumed g c = λ g' c' told l qs asks q has.
+    (asked_law c.search_law.ensures c.load_law.ensures.lawful c.commands_law.ensures.fit g' c' default_budget l qs asks q has).subsumed
+
 pub returns-in-Some-clause-enough : goal.returns-in-Some-clause-enough
 returns-in-Some-clause-enough g c = λ g' c' told l qs asks q has.
     (asked_law c.search_law.ensures c.load_law.ensures.lawful c.commands_law.ensures.fit g' c' default_budget l qs asks q has).enough
