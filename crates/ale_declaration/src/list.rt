@@ -1,5 +1,5 @@
 //! Lists that are read, and the tests of names.
-ghost use Rattle.std.specs.Prelude.{◌≡◌, Some, ◌∷◌, ◌++◌, OnOk};
+ghost use Rattle.std.specs.Prelude.{◌≡◌, ◌++◌, OnOk};
 ghost use Rattle.std.specs.Str.{bytes_eq, chars};
 ghost use Rattle.ale_term.specs.Results.{Gives};
 ghost use Rattle.ale_declaration.specs.Reading.{atoms_at, has_name, are_distinct};
