@@ -2,7 +2,7 @@
 use crate::shown::{push_goal, push_left, push_names, push_read_error, push_term, push_terms};
 use ale_term::{
     GoalTerm, Lexeme, ReadError, Term, add, atoms, call, description, element, goal, goal_element,
-    lexemes,
+    joined, lexemes,
 };
 use ale_text::{Row, Text};
 use ale_token::tokens;
@@ -402,5 +402,16 @@ fn an_item_is_added(rt: HostRuntime) -> Result<(), AllocError> {
     items.push(7)?;
     add(&mut items, 1)?;
     assert_eq!(rt; items.as_slice(), [7, 1].as_slice());
+    Ok(())
+}
+
+#[test]
+fn items_are_joined(rt: HostRuntime) -> Result<(), AllocError> {
+    let mut others = Vec::new(rt.alloc());
+    others.push(1)?;
+    match joined(rt.alloc(), 7, others) {
+        Ok(all) => assert_eq!(rt; all.as_slice(), [7, 1].as_slice()),
+        Err(_) => assert!(rt; false),
+    }
     Ok(())
 }
