@@ -14,9 +14,10 @@ pub fn run_law()
     closure_law();
 }
 
-/// What every search for a description means: its answers are solutions, a search that ended has all
-/// solutions up to subsumption, it ends within its budget exactly where nothing waits after as many visits,
-/// and without disjunction two visits for each part and two more are enough.
+/// What every search for a description means: its answers are solutions, and so is each structure that an
+/// answer subsumes; a search that ended has all solutions up to subsumption; it ends within its budget exactly
+/// where nothing waits after as many visits, and without disjunction two visits for each part and two more are
+/// enough.
 pub fn search_law()
     ensures { SearchLaws }
 {
