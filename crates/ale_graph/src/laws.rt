@@ -2,8 +2,8 @@ ghost use Rattle.ale_graph.specs.FirstStep.{FirstStepLaws};
 ghost use Rattle.ale_graph.specs.Universal.{ClosureLaw};
 
 /// The law of the closure, of any lawful hierarchy and any facts that fit: it is total and extensional, the
-/// facts hold in it, it maps into every structure that fulfils the facts in exactly one way, and there is
-/// none only where no structure does.
+/// facts hold in it and wherever it has a morphism, it maps into every structure that fulfils the facts in
+/// exactly one way, and there is none only where no structure does.
 pub fn closure_law()
     ensures { ClosureLaw }
 {}

@@ -4,9 +4,10 @@ ghost use Rattle.ale_logic.specs.Solutions.{SearchLaws};
 use ale_graph::closure_law;
 
 /// What visits and searches from any states have to do with the structures that satisfy these states: a
-/// structure satisfies a state exactly where it satisfies a kid, each answer comes from a first state, and
-/// at the end of a search each structure that satisfies a first state is reached by an answer. A search ends
-/// within its budget exactly where nothing waits after as many visits.
+/// structure satisfies a state exactly where it satisfies a kid, each answer comes from a first state, which
+/// is satisfied wherever the answer's graph has a morphism, and at the end of a search each structure that
+/// satisfies a first state is reached by an answer. A search ends within its budget exactly where nothing
+/// waits after as many visits.
 pub fn run_law()
     ensures steps { StepLaws }
     ensures runs { RunLaws }
