@@ -1,6 +1,7 @@
 use ale_graph::{Closed, Fact};
 use ale_samples::{
-    closed, e_list, has_types, hd, kind, list, lists, ne_list, numbered, signature_of, text, tl,
+    closed, closed_lists, e_list, has_types, hd, kind, list, ne_list, numbered, signature_of, text,
+    tl,
 };
 use ale_signature::{FeatId, SigDecl, Signature, TypeId};
 use ale_text::Text;
@@ -40,63 +41,39 @@ fn size(closed: &Option<Closed>) -> usize {
 
 /// The closure of one list node.
 fn one_list(alloc: Global) -> Result<Option<Closed>, AllocError> {
-    let Some(sig) = lists(alloc)? else {
-        return Ok(None);
-    };
-    let mut facts = Vec::new(alloc);
-    facts.push(Fact::OfType(0, ne_list()))?;
-    closed(alloc, &sig, facts.as_slice(), 1)
+    let facts = [Fact::OfType(0, ne_list())];
+    closed_lists(alloc, &facts, 1)
 }
 
-/// That node 0 is its tail's tail, by way of node 1.
-fn push_two(facts: &mut Vec<Fact>) -> Result<(), AllocError> {
-    facts.push(Fact::Value(0, tl(), 1))?;
-    facts.push(Fact::Value(1, tl(), 2))?;
-    facts.push(Fact::Same(2, 0))?;
-    Ok(())
-}
-
-/// That node 0 is its tail's tail's tail, by way of nodes 3 and 4.
-fn push_three(facts: &mut Vec<Fact>) -> Result<(), AllocError> {
-    facts.push(Fact::Value(0, tl(), 3))?;
-    facts.push(Fact::Value(3, tl(), 4))?;
-    facts.push(Fact::Value(4, tl(), 5))?;
-    facts.push(Fact::Same(5, 0))?;
-    Ok(())
-}
-
-/// The closure of both.
+/// The closure of two cycles: node 0 is its tail's tail, by way of node 1, and its tail's tail's tail, by way of
+/// nodes 3 and 4.
 fn two_cycles(alloc: Global) -> Result<Option<Closed>, AllocError> {
-    let Some(sig) = lists(alloc)? else {
-        return Ok(None);
-    };
-    let mut facts = Vec::new(alloc);
-    push_two(&mut facts)?;
-    push_three(&mut facts)?;
-    closed(alloc, &sig, facts.as_slice(), 6)
+    let facts = [
+        Fact::Value(0, tl(), 1),
+        Fact::Value(1, tl(), 2),
+        Fact::Same(2, 0),
+        Fact::Value(0, tl(), 3),
+        Fact::Value(3, tl(), 4),
+        Fact::Value(4, tl(), 5),
+        Fact::Same(5, 0),
+    ];
+    closed_lists(alloc, &facts, 6)
 }
 
 /// The closure of a node of two types.
 fn two_types(alloc: Global, one: TypeId, other: TypeId) -> Result<Option<Closed>, AllocError> {
-    let Some(sig) = lists(alloc)? else {
-        return Ok(None);
-    };
-    let mut facts = Vec::new(alloc);
-    facts.push(Fact::OfType(0, one))?;
-    facts.push(Fact::OfType(0, other))?;
-    closed(alloc, &sig, facts.as_slice(), 1)
+    let facts = [Fact::OfType(0, one), Fact::OfType(0, other)];
+    closed_lists(alloc, &facts, 1)
 }
 
 /// The closure of two nodes that differ: node 1 is the tail of node 0, and node 2 that of another one.
 fn two_apart(alloc: Global, other: usize) -> Result<Option<Closed>, AllocError> {
-    let Some(sig) = lists(alloc)? else {
-        return Ok(None);
-    };
-    let mut facts = Vec::new(alloc);
-    facts.push(Fact::Differ(1, 2))?;
-    facts.push(Fact::Value(0, tl(), 1))?;
-    facts.push(Fact::Value(other, tl(), 2))?;
-    closed(alloc, &sig, facts.as_slice(), 4)
+    let facts = [
+        Fact::Differ(1, 2),
+        Fact::Value(0, tl(), 1),
+        Fact::Value(other, tl(), 2),
+    ];
+    closed_lists(alloc, &facts, 4)
 }
 
 /// `over intro [feature:under].`
@@ -124,9 +101,8 @@ fn chained(alloc: Global, count: usize) -> Result<Option<Closed>, AllocError> {
     let Some(sig) = chain(alloc, count)? else {
         return Ok(None);
     };
-    let mut facts = Vec::new(alloc);
-    facts.push(Fact::OfType(0, TypeId::of(1)))?;
-    closed(alloc, &sig, facts.as_slice(), 1)
+    let facts = [Fact::OfType(0, TypeId::of(1))];
+    closed(alloc, &sig, &facts, 1)
 }
 
 #[test]

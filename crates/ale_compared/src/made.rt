@@ -1,6 +1,6 @@
 //! Graphs of closures.
 use ale_graph::{Closed, Fact, Graph};
-use ale_samples::{closed, lists};
+use ale_samples::closed_lists;
 use ale_text::Row;
 use std::alloc::{AllocError, Global};
 
@@ -29,14 +29,6 @@ pub fn graph_of(
 ) -> Result<Option<Graph>, AllocError> {
     match closed_lists(alloc, facts, next)? {
         Some(closed) => rooted(alloc, closed, root),
-        None => Ok(None),
-    }
-}
-
-/// The closure of facts over lists.
-fn closed_lists(alloc: Global, facts: &[Fact], next: usize) -> Result<Option<Closed>, AllocError> {
-    match lists(alloc)? {
-        Some(sig) => closed(alloc, &sig, facts, next),
         None => Ok(None),
     }
 }

@@ -4,6 +4,7 @@ ghost use Rattle.ale_hierarchy.specs.Order.{hierarchy};
 ghost use Rattle.ale_graph.specs.Facts.{Fits, FitsFact};
 ghost use Rattle.ale_graph.specs.Structures.{IsStructure};
 
+use crate::list_types::lists;
 use ale_graph::{Closed, Fact, Graph, close, closure_law};
 use ale_signature::{Signature, TypeId};
 use std::alloc::{AllocError, Global};
@@ -50,6 +51,18 @@ pub fn closed(
         close(alloc, sig, facts, next)
     } else {
         Ok(None)
+    }
+}
+
+/// The closure of facts over lists; None where they speak of what is not known, or where there is none.
+pub fn closed_lists(
+    alloc: Global,
+    facts: &[Fact],
+    next: usize,
+) -> Result<Option<Closed>, AllocError> {
+    match lists(alloc)? {
+        Some(sig) => closed(alloc, &sig, facts, next),
+        None => Ok(None),
     }
 }
 

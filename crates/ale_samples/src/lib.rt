@@ -5,6 +5,6 @@ mod closures;
 mod list_types;
 mod signatures;
 
-pub use closures::{closed, has_types};
+pub use closures::{closed, closed_lists, has_types};
 pub use list_types::{e_list, hd, list, list_decls, lists, ne_list, tl};
 pub use signatures::{above, kind, numbered, signature_of, text, with};
