@@ -1,4 +1,4 @@
-pub mod Chosen
+pub mod Numbered
 pub mod Progress
 pub mod Turned
 pub mod Visits

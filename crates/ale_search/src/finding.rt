@@ -1,14 +1,12 @@
 ghost use Rattle.std.specs.Prelude.{◌≡◌, ◌<◌, IfOk, OnOk, [], ◌∷◌, ◌++◌};
 ghost use Rattle.ale_hierarchy.specs.Order.{hierarchy};
 ghost use Rattle.ale_logic.specs.Descriptions.{description, FitsDescription};
-ghost use Rattle.ale_logic.specs.States.{start};
-ghost use Rattle.ale_logic.specs.Visits.{search};
-ghost use Rattle.ale_search.specs.Views.{state_of, states_of, waiting_of};
-ghost use Rattle.ale_search.specs.Outcomes.{outcome_of};
+ghost use Rattle.ale_search.specs.Views.{seen, seen_state, states_of, waiting_of};
+ghost use Rattle.ale_search.specs.Outcomes.{found, outcome_of};
 
 use crate::state::{State, start};
 use crate::visiting::{Visited, visit};
-use ale_graph::closure_law;
+use ale_graph::{Closed, closure_law};
 use ale_logic::{Answer, Desc};
 use ale_signature::{Row, Signature};
 use std::alloc::{AllocError, Global};
@@ -34,6 +32,19 @@ fn put_before<'a>(
     Ok(())
 }
 
+/// What is told of an answer: its closure, and its first environment.
+fn answer<'a>(alloc: Global, closed: Closed, state: State<'a>) -> Answer
+    ensures { result ≡ seen closed.entry (state_of state.entry) }
+{
+    let State { mut envs, .. } = state;
+    let env = if envs.is_empty() {
+        Row::of(Vec::new(alloc))
+    } else {
+        envs.swap_remove(0)
+    };
+    Answer { closed, env }
+}
+
 /// Searches for what satisfies the description, whose variables have slots below `slots`, with at most so
 /// many visits.
 pub fn find(
@@ -44,7 +55,7 @@ pub fn find(
     budget: u64,
 ) -> Result<Found, AllocError>
     requires { FitsDescription (hierarchy sig.now) slots (description desc.now) }
-    ensures { IfOk result (λ f. outcome_of f ≡ search (hierarchy sig.now) budget (start slots (description desc.now) ∷ [])) }
+    ensures { IfOk result (λ f. outcome_of f ≡ found (hierarchy sig.now) budget slots (description desc.now)) }
 {
     closure_law();
     let _ = sig.type_count();
@@ -61,10 +72,12 @@ pub fn find(
             });
         };
         visits += 1;
-        match visit(alloc, sig, state)? {
-            Visited::Fails => {}
-            Visited::Answers(answer) => answers.push(answer)?,
-            Visited::Goes(states) => put_before(&mut waiting, states)?,
+        match visit(alloc, sig, waiting.len(), state)? {
+            Visited::Answers(closed, state) => answers.push(answer(alloc, closed, state))?,
+            Visited::Goes(stay, states) => {
+                waiting.truncate(stay);
+                put_before(&mut waiting, states)?;
+            }
         }
     }
     Ok(Found {

@@ -1,30 +1,28 @@
-ghost use Rattle.std.specs.Prelude.{◌≡◌, IfOk, length, [], ◌∷◌};
+ghost use Rattle.std.specs.Prelude.{◌≡◌, ◌<◌, ℕ, IfOk, length, [], ◌∷◌};
 ghost use Rattle.ale_hierarchy.specs.Order.{hierarchy};
 ghost use Rattle.ale_graph.specs.Filling.{class_value};
 ghost use Rattle.ale_graph.specs.Closure.{class_of};
-ghost use Rattle.ale_logic.specs.Visits.{visit, kids};
-ghost use Rattle.ale_logic.specs.States.{IsState, holds, on, take};
 ghost use Rattle.ale_logic.specs.Descriptions.{description, FitsDescription};
-ghost use Rattle.ale_hierarchy.specs.Hierarchy.{Hierarchy};
-ghost use Rattle.ale_search.specs.Views.{demand_of, item_of, agenda_of, state_of, states_of, visited_of, IsKnown, IsKnownDemand};
+ghost use Rattle.ale_logic.specs.States.{env_at, holds, on, take, numbered};
+ghost use Rattle.ale_logic.specs.WellFormed.{IsState};
+ghost use Rattle.ale_logic.specs.Visits.{visit, kids};
+ghost use Rattle.ale_search.specs.Views.{bare, demand_of, item_of, rest_of, state_of, states_of, visited_of, IsKnown, IsKnownDemand, IsKnownAt};
 
-use crate::choosing::choices;
-use crate::state::{Demand, Item, Rest, State, going, going_with, push_all};
-use crate::stepping::{binding, leading, meeting, stepping};
+use crate::choosing::alternatives;
+use crate::state::{Demand, Item, Rest, State, choose, going, push_all, telling};
+use crate::stepping::{binding, differing, equating_paths, leading, stepping};
 use ale_graph::{Closed, Fact, close};
-use ale_logic::{Answer, Desc};
-use ale_signature::{FeatId, Row, Signature};
+use ale_logic::Desc;
+use ale_signature::{FeatId, Signature};
 use std::alloc::{AllocError, Global};
 
 /// What a visit gives.
 #[derive(Drop)]
 pub enum Visited<'a> {
-    /// The state has no closure.
-    Fails,
-    /// Nothing is left to impose.
-    Answers(Answer),
-    /// The states that come in its place, in order.
-    Goes(Vec<State<'a>>),
+    /// Nothing is left to do in the state, whose closure this is.
+    Answers(Closed, State<'a>),
+    /// How many of the waiting states stay, and the states that come in place of the one visited, in order.
+    Goes(usize, Vec<State<'a>>),
 }
 
 /// The class that is the value of the node's class by the feature.
@@ -43,12 +41,12 @@ fn value_at(closed: &Closed, node: usize, feature: &FeatId) -> Option<usize>
     None
 }
 
-/// One state alone.
+/// One state alone, as the first kid.
 fn only<'a>(alloc: Global, state: State<'a>) -> Result<Vec<State<'a>>, AllocError>
-    ensures { IfOk result (λ v. states_of v.items ≡ state_of state.entry ∷ []) }
+    ensures { IfOk result (λ v. states_of v.items ≡ numbered 0 (state_of state.entry ∷ [])) }
 {
     let mut kids = Vec::new(alloc);
-    kids.push(state)?;
+    kids.push(choose(state, 0)?)?;
     Ok(kids)
 }
 
@@ -58,33 +56,39 @@ fn described<'a>(
     alloc: Global,
     sig: &Signature,
     mut rest: Rest<'a>,
+    env: usize,
     node: usize,
     desc: &'a Desc,
 ) -> Result<Vec<State<'a>>, AllocError>
-    requires { FitsDescription (hierarchy sig.now) (length rest.env.items) (description desc.now) }
-    ensures { IfOk result (λ v. states_of v.items ≡ kids (hierarchy sig.now) rest.entry.closed rest.entry.env.items
-        (on node (holds (description desc.now))) (agenda_of rest.entry.agenda.items)) }
+    requires env { env < length rest.envs.items }
+    requires fits { FitsDescription (hierarchy sig.now) (length (env_at rest.envs.items env)) (description desc.now) }
+    ensures { IfOk result (λ v. states_of v.items
+        ≡ numbered 0 (kids (bare (hierarchy sig.now)) 0 rest.entry.closed (on node (holds env (description desc.now))) (rest_of rest.entry))) }
 {
     match desc {
         Desc::OfType(t) => {
-            let kid = going_with(rest, Fact::OfType(node, *t))?;
+            let kid = telling(rest, Fact::OfType(node, *t))?;
             only(alloc, kid)
         }
         Desc::Slot(slot) => {
-            let kid = binding(rest, *slot as usize, node)?;
+            let kid = binding(alloc, rest, env, *slot as usize, node)?;
             only(alloc, kid)
         }
         Desc::At(feature, inner) => {
-            let kid = stepping(sig, rest, node, feature, Demand::Holds(inner.get()))?;
+            let kid = stepping(sig, rest, node, feature, Demand::Holds(env, inner.get()))?;
             only(alloc, kid)
         }
         Desc::All(parts) => {
-            push_all(&mut rest.agenda, node, parts.as_slice())?;
+            push_all(&mut rest.agenda, env, node, parts.as_slice())?;
             only(alloc, going(rest))
         }
-        Desc::Any(parts) => choices(alloc, rest, node, parts.as_slice()),
+        Desc::Any(parts) => alternatives(alloc, going(rest), env, node, parts.as_slice()),
+        Desc::Differs(inner) => {
+            let kid = differing(rest, env, node, inner.get())?;
+            only(alloc, kid)
+        }
         Desc::Meet(left, right) => {
-            let kid = meeting(sig, rest, node, left.as_slice(), node, right.as_slice())?;
+            let kid = equating_paths(sig, rest, node, left.as_slice(), node, right.as_slice())?;
             only(alloc, kid)
         }
     }
@@ -98,14 +102,14 @@ fn demanded<'a>(
     node: usize,
     demand: Demand<'a>,
 ) -> Result<Vec<State<'a>>, AllocError>
-    requires { IsKnownDemand (hierarchy sig.now) (length rest.env.items) (demand_of demand) }
-    ensures { IfOk result (λ v. states_of v.items ≡ kids (hierarchy sig.now) rest.entry.closed rest.entry.env.items
-        (on node (demand_of demand.entry)) (agenda_of rest.entry.agenda.items)) }
+    requires { IsKnownDemand (hierarchy sig.now) rest.envs.items (demand_of demand) }
+    ensures { IfOk result (λ v. states_of v.items
+        ≡ numbered 0 (kids (bare (hierarchy sig.now)) 0 rest.entry.closed (on node (demand_of demand.entry)) (rest_of rest.entry))) }
 {
     match demand {
-        Demand::Holds(desc) => described(alloc, sig, rest, node, desc),
-        Demand::Meets(path, other, other_path) => {
-            let kid = meeting(sig, rest, node, path, other, other_path)?;
+        Demand::Holds(env, desc) => described(alloc, sig, rest, env, node, desc),
+        Demand::EndsWith(path, other, other_path) => {
+            let kid = equating_paths(sig, rest, node, path, other, other_path)?;
             only(alloc, kid)
         }
         Demand::Leads(path, end) => {
@@ -119,14 +123,16 @@ fn demanded<'a>(
 #[tactic(auto, using(crate::proofs::Turned::turned_push))]
 fn taken<'a>(
     alloc: Global,
+    sig: &Signature,
     mut rest: Rest<'a>,
     node: usize,
     feature: &FeatId,
     demand: Demand<'a>,
 ) -> Result<Vec<State<'a>>, AllocError>
-    ensures { (h : Hierarchy) → IfOk result (λ v. states_of v.items ≡ kids h rest.entry.closed rest.entry.env.items
-        (take node feature.now (demand_of demand.entry)) (agenda_of rest.entry.agenda.items)) }
+    ensures { IfOk result (λ v. states_of v.items
+        ≡ numbered 0 (kids (bare (hierarchy sig.now)) 0 rest.entry.closed (take node feature.now (demand_of demand.entry)) (rest_of rest.entry))) }
 {
+    let _ = sig;
     match value_at(&rest.closed, node, feature) {
         Some(value) => {
             rest.agenda.push(Item::On(value, demand))?;
@@ -143,47 +149,56 @@ fn kids_of<'a>(
     rest: Rest<'a>,
     item: Item<'a>,
 ) -> Result<Vec<State<'a>>, AllocError>
-    requires { IsKnown (hierarchy sig.now) (length rest.env.items) (item_of item) }
-    ensures { IfOk result (λ v. states_of v.items ≡ kids (hierarchy sig.now) rest.entry.closed rest.entry.env.items
-        (item_of item.entry) (agenda_of rest.entry.agenda.items)) }
+    requires { IsKnown (hierarchy sig.now) rest.envs.items (item_of item) }
+    ensures { IfOk result (λ v. states_of v.items
+        ≡ numbered 0 (kids (bare (hierarchy sig.now)) 0 rest.entry.closed (item_of item.entry) (rest_of rest.entry))) }
 {
     match item {
         Item::On(node, demand) => demanded(alloc, sig, rest, node, demand),
-        Item::Take(node, feature, demand) => taken(alloc, rest, node, feature, demand),
+        Item::Take(node, feature, demand) => taken(alloc, sig, rest, node, feature, demand),
     }
 }
 
-/// One visit of a state.
+/// One visit of a state, while so many others wait.
 #[tactic(auto, unfolding(ale_logic::specs::Visits::visit))]
 pub fn visit<'a>(
     alloc: Global,
     sig: &Signature,
+    waiting: usize,
     state: State<'a>,
 ) -> Result<Visited<'a>, AllocError>
     requires { IsState (hierarchy sig.now) (state_of state) }
-    ensures { IfOk result (λ v. visited_of v ≡ visit (hierarchy sig.now) (state_of state.entry)) }
+    ensures { IfOk result (λ v. visited_of v ≡ visit (bare (hierarchy sig.now)) waiting (state_of state.entry)) }
 {
+    let Some(closed) = close(alloc, sig, state.facts.as_slice(), state.next)? else {
+        return Ok(Visited::Goes(waiting, Vec::new(alloc)));
+    };
     let State {
         facts,
         next,
-        env,
+        envs,
+        choices,
         mut agenda,
     } = state;
-    let Some(closed) = close(alloc, sig, facts.as_slice(), next)? else {
-        return Ok(Visited::Fails);
-    };
     match agenda.pop() {
-        None => Ok(Visited::Answers(Answer {
+        None => Ok(Visited::Answers(
             closed,
-            env: Row::of(env),
-        })),
+            State {
+                facts,
+                next,
+                envs,
+                choices,
+                agenda,
+            },
+        )),
         Some(item) => {
             let rest = Rest {
                 closed,
-                env,
+                envs,
+                choices,
                 agenda,
             };
-            Ok(Visited::Goes(kids_of(alloc, sig, rest, item)?))
+            Ok(Visited::Goes(waiting, kids_of(alloc, sig, rest, item)?))
         }
     }
 }
