@@ -1,8 +1,7 @@
 -- What a budget is to a search, and what stopping at an answer is, for states of any kind.
 -- Source: this project's own.
 use Rattle.std.specs.Prelude.{◌≡◌, ℕ, suc, ◌+◌, ◌<◌, ◌≤◌, true, false, List, [], ◌∷◌, ◌++◌, length}
-use Rattle.ale_relation.specs.Has.{Has}
-use Rattle.ale_engine.specs.Engine.{Visit, waiting_after, answers_in, visits_in, search, Next, found, ended, spent, next_answer}
+use Rattle.ale_engine.specs.Engine.{Visit, waiting_after, answers_in, visits_in, search, Next, found, ended, spent}
 
 -- the second list is the first and then more
 abbrev pub IsPrefix : {A : Type 0} → List A → List A → Type 0
