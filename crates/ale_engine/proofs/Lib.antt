@@ -1,0 +1,4 @@
+pub mod Budget
+pub mod EngineLaw
+pub mod InTurn
+pub mod Lists

@@ -1,0 +1,4 @@
+pub mod Engine
+pub mod EngineLaws
+pub mod Growth
+pub mod GrowthLaws
