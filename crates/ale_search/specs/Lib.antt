@@ -1,2 +1,3 @@
 pub mod Outcomes
+pub mod Solutions
 pub mod Views

@@ -1,10 +1,10 @@
 -- What the states of the program stand for. A stack holds its first element last.
-use Rattle.std.specs.Prelude.{ℕ, ◌<◌, List, [], ◌∷◌, map, length}
+use Rattle.std.specs.Prelude.{ℕ, ◌<◌, None, List, [], ◌∷◌, map, length}
 use Rattle.ale_hierarchy.specs.Hierarchy.{Hierarchy}
 use Rattle.ale_graph.specs.declared.closed.Closed.{Closed}
 use Rattle.ale_engine.specs.Engine.{Visit, answers, goes}
 use Rattle.ale_logic.specs.Descriptions.{description, FitsPath, FitsDescription}
-use Rattle.ale_logic.specs.Programs.{empty_program}
+use Rattle.ale_logic.specs.Programs.{Program}
 use Rattle.ale_logic.specs.Words.{Environment, Grammar}
 use Rattle.ale_logic.specs.States as plain
 use Rattle.ale_logic.specs.States.{env_at}
@@ -20,7 +20,22 @@ use Rattle.ale_search.specs.declared.state.Item.TheVariants.{On, Take}
 use Rattle.ale_search.specs.declared.state.State.{State}
 use Rattle.ale_search.specs.declared.state.Rest.{Rest}
 
--- a signature with the program that says nothing, and without words
+-- the program that says nothing
+abbrev pub empty_program : Program
+empty_program = record {
+  preds = [];
+  constraints = [];
+  words = [];
+  empties = [];
+  lex_rules = [];
+  rules = [];
+  semantics = None;
+  lists = None;
+  lex_depth = 0;
+  chain_length = 0;
+}
+
+-- a signature with that program, and without words
 abbrev pub bare : Hierarchy → Grammar
 bare h = wordless h empty_program
 

@@ -1,7 +1,7 @@
 ghost use Rattle.std.specs.Prelude.{◌≡◌, ◌<◌, IfOk, OnOk, [], ◌∷◌, ◌++◌};
 ghost use Rattle.ale_hierarchy.specs.Order.{hierarchy};
 ghost use Rattle.ale_logic.specs.Descriptions.{description, FitsDescription};
-ghost use Rattle.ale_search.specs.Views.{seen, seen_state, states_of, waiting_of};
+ghost use Rattle.ale_search.specs.Views.{seen, state_of, states_of, waiting_of};
 ghost use Rattle.ale_search.specs.Outcomes.{found, outcome_of};
 
 use crate::state::{State, start};
@@ -34,7 +34,7 @@ fn put_before<'a>(
 
 /// What is told of an answer: its closure, and its first environment.
 fn answer<'a>(alloc: Global, closed: Closed, state: State<'a>) -> Answer
-    ensures { result ≡ seen closed.entry (state_of state.entry) }
+    ensures { result ≡ seen closed (state_of state.entry) }
 {
     let State { mut envs, .. } = state;
     let env = if envs.is_empty() {

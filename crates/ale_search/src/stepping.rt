@@ -74,8 +74,8 @@ pub fn equating_paths<'a>(
 
 /// Binds the variable with this slot to the node, in the environment with this number.
 fn bind(alloc: Global, envs: &mut Vec<Environment>, env: usize, slot: usize, node: usize)
-    requires env { env < length envs.items }
-    requires slot { slot < length (env_at envs.items env) }
+    requires env { env < length envs.now.items }
+    requires slot { slot < length (env_at envs.now.items env) }
     ensures { envs.new.items ≡ slice_set envs.old.items env (slice_set (env_at envs.old.items env) slot (Some node)) }
 {
     let mut nodes = std::mem::replace(&mut envs[env], Row::of(Vec::new(alloc))).into_vec();

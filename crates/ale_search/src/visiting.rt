@@ -6,7 +6,7 @@ ghost use Rattle.ale_logic.specs.Descriptions.{description, FitsDescription};
 ghost use Rattle.ale_logic.specs.States.{env_at, holds, on, take, numbered};
 ghost use Rattle.ale_logic.specs.WellFormed.{IsState};
 ghost use Rattle.ale_logic.specs.Visits.{visit, kids};
-ghost use Rattle.ale_search.specs.Views.{bare, demand_of, item_of, rest_of, state_of, states_of, visited_of, IsKnown, IsKnownDemand, IsKnownAt};
+ghost use Rattle.ale_search.specs.Views.{bare, demand_of, item_of, rest_of, state_of, states_of, visited_of, IsKnown, IsKnownDemand};
 
 use crate::choosing::alternatives;
 use crate::state::{Demand, Item, Rest, State, choose, going, push_all, telling};
