@@ -1,0 +1,11 @@
+pub mod Agreeing
+pub mod Carrying
+pub mod Closures
+pub mod Deeper
+pub mod Down
+pub mod EnvLists
+pub mod Every
+pub mod Growing
+pub mod Senses
+pub mod Up
+pub mod Wider

@@ -1,0 +1,2 @@
+//! The laws of single visits of the defined search.
+#![tactic(auto)]
