@@ -55,7 +55,7 @@ module _ (gr : Grammar) (s : Structure) (c : Scope) (y x : Sense) (same : AgreeO
   demand_agrees (generates g) fit m p = subst (Headed gr.signature gr.program s (HasEntry gr s) (HasEmpty gr s) m) (sym (same.words g fit)) p
   demand_agrees (generates_all g) fit m p = subst (HeadedList gr.signature gr.program s (HasEntry gr s) (HasEmpty gr s) m) (sym (same.words g fit)) p
 
-  connected_agrees : (p : ℕ) (us : List Word) (t : Target) → FitsTarget c t → IsConnected gr s x p us t → IsConnected gr s y p us t
+  pub connected_agrees : (p : ℕ) (us : List Word) (t : Target) → FitsTarget c t → IsConnected gr s x p us t → IsConnected gr s y p us t
   connected_agrees p us t fit k = record {
     steps = k.steps;
     few = k.few;

@@ -49,12 +49,12 @@ one_more P xs y old new x e = go (has_either xs (y ∷ []) x e)
     go (inr (inr p)) = absurd p
 
 -- the state with a wider scope
-record Widened (h : Hierarchy) (st : State) (d : Scope) : Type 0 where
+pub record Widened (h : Hierarchy) (st : State) (d : Scope) : Type 0 where
   pub items : FitItems h d st.agenda
   pub rest : (e : Element) → Has st.rest e → FitsRest h d e
   pub said : (g : ℕ) (ps : List Piece) → Has st.said (g, ps) → (g < d.phrases) × FitPieces d g ps
 
-widened : (h : Hierarchy) (st : State) (d : Scope) → IsState h st → Wider (scope_of st) d → Widened h st d
+pub widened : (h : Hierarchy) (st : State) (d : Scope) → IsState h st → Wider (scope_of st) d → Widened h st d
 widened h st d is w = record {
   items = items_wider h (scope_of st) d w st.agenda is.items;
   rest = λ e p. rest_wider h (scope_of st) d w e (is.rest e p);

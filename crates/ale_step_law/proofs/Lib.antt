@@ -5,7 +5,11 @@ pub mod Deeper
 pub mod Down
 pub mod EnvLists
 pub mod Every
+pub mod GeneratorDown
+pub mod GeneratorUp
 pub mod Growing
+pub mod PutFits
+pub mod Puts
 pub mod Senses
 pub mod Up
 pub mod Wider
