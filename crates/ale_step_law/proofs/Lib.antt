@@ -8,6 +8,7 @@ pub mod Every
 pub mod GeneratorDown
 pub mod GeneratorUp
 pub mod Growing
+pub mod On
 pub mod PutFits
 pub mod Puts
 pub mod Senses
