@@ -76,6 +76,9 @@ module _ (gr : Grammar) (s : Structure) (x : Sense) (remain : List Element) (st 
       let r = equating_down a p b q sat in
       subst (SatisfiesBefore gr s x (doing i st) remain) (sym (equating_imposed gr.signature a p b q st)) (back i w (from r.0) r.1)
 
+  pub stepping_back : (i : Item) → IsWhole i → (n f : ℕ) (d : Demand) → (HoldsItem gr s x (take n f d) → HoldsItem gr s x i) → IsBack i (stepping gr.signature n f d st)
+  stepping_back i w n f d from sat = let r = stepping_down n f d sat in back i w (from r.0) r.1
+
   pub leading_back : (b : ℕ) (q : List ℕ) (a : ℕ) → IsBack (on b (leads q a)) (leading gr.signature b q a st)
   leading_back b q a sat =
       let r = leading_down b q a sat in

@@ -195,16 +195,16 @@ module _ (gr : Grammar) (st : State) where
   puts_none i kid agenda said phrases sought = puts i kid [] agenda said phrases sought (λ q. tt) (λ program p. tt)
 
   leading_follows : (i : Item) → ((g : ℕ) → 0 ≡ times_sought g i) → (h : Hierarchy) (b : ℕ) (q : List ℕ) (a : ℕ) → Follows gr st i (leading h b q a st)
-  leading_follows i none h b [] a = puts_none i (told (Same a b) st) refl refl refl none
-  leading_follows i none h b (f ∷ q) a = puts i (stepping h b f (leads q a) st) (take b f (leads q a) ∷ []) refl refl refl none (λ q. (tt, tt)) (λ program p. (tt, tt))
+  leading_follows i unsought h b [] a = puts_none i (told (Same a b) st) refl refl refl unsought
+  leading_follows i unsought h b (f ∷ q) a = puts i (stepping h b f (leads q a) st) (take b f (leads q a) ∷ []) refl refl refl unsought (λ q. (tt, tt)) (λ program p. (tt, tt))
 
   equating_follows : (i : Item) → ((g : ℕ) → 0 ≡ times_sought g i) → (h : Hierarchy) (a : ℕ) (p : List ℕ) (b : ℕ) (q : List ℕ) → Follows gr st i (equating_paths h a p b q st)
-  equating_follows i none h a [] b q = leading_follows i none h b q a
-  equating_follows i none h a (f ∷ p) b q = puts i (stepping h a f (ends_with p b q) st) (take a f (ends_with p b q) ∷ []) refl refl refl none (λ q. (tt, tt)) (λ program p. (tt, tt))
+  equating_follows i unsought h a [] b q = leading_follows i unsought h b q a
+  equating_follows i unsought h a (f ∷ p) b q = puts i (stepping h a f (ends_with p b q) st) (take a f (ends_with p b q) ∷ []) refl refl refl unsought (λ q. (tt, tt)) (λ program p. (tt, tt))
 
   binding_follows : (i : Item) → ((g : ℕ) → 0 ≡ times_sought g i) → (e v n : ℕ) (o : Option ℕ) → Follows gr st i (binding e v n o st)
-  binding_follows i none e v n None = puts_none i (bind e v n st) refl refl refl none
-  binding_follows i none e v n (Some m) = puts_none i (told (Same n m) st) refl refl refl none
+  binding_follows i unsought e v n None = puts_none i (bind e v n st) refl refl refl unsought
+  binding_follows i unsought e v n (Some m) = puts_none i (told (Same n m) st) refl refl refl unsought
 
   alternatives_follow : (i : Item) → ((g : ℕ) → 0 ≡ times_sought g i) → (e n : ℕ) (ds : Descriptions) → Every (Follows gr st i) (alternatives e n ds st)
   alternatives_follow i none_sought e n none = every_none (Follows gr st i)
@@ -280,9 +280,6 @@ module _ (gr : Grammar) (st : State) where
       ends (Some o) = puts (split n end) (told (OfType n l.e_list) (ending (Some o) st)) (on o.0 (holds 0 o.1) ∷ []) refl refl refl (λ f. refl) (λ q. (tt, tt)) (λ program p. (tt, tt))
 
   -- a constraint that is imposed, as an item that seeks nothing
-  nothing : Item
-  nothing = on 0 (holds 0 (of_type 0))
-
   pub constraint_follows : (waiting n k : ℕ) (c : Constraint) → Has gr.program.constraints c → Follows gr st (on 0 (holds 0 (of_type 0))) (with_constraint waiting n k c st)
   constraint_follows waiting n k c has = go c.goal (λ program. program.constraints c has)
     where

@@ -5,12 +5,15 @@ pub mod Deeper
 pub mod Down
 pub mod EnvLists
 pub mod Every
+pub mod Follows
 pub mod GeneratorDown
 pub mod GeneratorUp
 pub mod Growing
 pub mod On
+pub mod Owing
 pub mod PutFits
 pub mod Puts
 pub mod Senses
+pub mod Tables
 pub mod Up
 pub mod Wider

@@ -27,9 +27,6 @@ use Rattle.ale_step_law.proofs.GeneratorDown.{generate_back, list_back, pivot_ba
 use Rattle.ale_step_law.proofs.GeneratorUp.{generate_one, list_one, pivot_one, connect_one}
 
 module _ (gr : Grammar) (words : (e : Entry) → Has gr.words.entries e ⊎ Has gr.words.empties e → IsEntry gr.signature e) (rules : (r : Rule) → Has gr.program.rules r → FitsRule gr.signature r) (waiting : ℕ) (c : Closed) (s : Structure) (x : Sense) (remain : List Element) (st : State) where
-  abbrev Back : Item → State → Type 0
-  Back i = IsBack gr s x remain st i
-
   pub kids_back : ((n f m : ℕ) → class_value (class_of c) c.facts (class_of c n) f ≡ Some m → Satisfies gr s x st remain → value_of s (x.node n) f ≡ Some (x.node m)) → (i : Item) → FitsItem gr.signature (scope_of st) i → IsPlainItem i → Every (IsBack gr s x remain st i) (kids gr waiting c i st)
   kids_back value (on n (holds e (of_type t))) fit plain =
       every_one (IsBack gr s x remain st (on n (holds e (of_type t)))) (told (OfType n t) st)
