@@ -10,6 +10,7 @@ pub mod GeneratorDown
 pub mod GeneratorUp
 pub mod Growing
 pub mod On
+pub mod OneVisit
 pub mod Owing
 pub mod PutFits
 pub mod Puts
