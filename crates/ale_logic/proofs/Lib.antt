@@ -1,7 +1,1 @@
-pub mod Budget
-pub mod Environments
-pub mod Search
-pub mod SingleSteps
-pub mod Spending
-pub mod Step
 pub mod Terms

@@ -2,9 +2,9 @@
 use Rattle.std.proofs.Common.{◌≡◌, sym, ap, ◌∙◌, List}
 use Rattle.ale_logic.specs.declared.desc.Desc.{Desc, fold-roll-Desc}
 use Rattle.ale_logic.specs.declared.desc.Desc.TheOpen.{Desc-F}
-use Rattle.ale_logic.specs.declared.desc.Desc.TheVariants.{OfType, Slot, At, All, Any, Meet, rolls-OfType, rolls-Slot, rolls-At, rolls-All, rolls-Any, rolls-Meet}
+use Rattle.ale_logic.specs.declared.desc.Desc.TheVariants.{OfType, Slot, At, All, Any, Differs, Meet, rolls-OfType, rolls-Slot, rolls-At, rolls-All, rolls-Any, rolls-Differs, rolls-Meet}
 use Rattle.std.specs.Prelude.{ℕ, map}
-use Rattle.ale_logic.specs.Descriptions.{Description, of_type, slot, at, all, any, meet, descriptions_of, description_step, description}
+use Rattle.ale_logic.specs.Descriptions.{Description, of_type, slot, at, all, any, differs, path_equation, descriptions_of, description_step, description}
 
 pub description_type : (t : ℕ) → description (OfType t) ≡ of_type t
 description_type t = ap description (sym (rolls-OfType t)) ∙ fold-roll-Desc Description description_step (Desc-F.OfType t)
@@ -21,7 +21,10 @@ description_all ds = ap description (sym (rolls-All ds)) ∙ fold-roll-Desc Desc
 pub description_any : (ds : List Desc) → description (Any ds) ≡ any (descriptions_of (map description ds))
 description_any ds = ap description (sym (rolls-Any ds)) ∙ fold-roll-Desc Description description_step (Desc-F.Any ds)
 
-pub description_meet : (p q : List ℕ) → description (Meet p q) ≡ meet p q
+pub description_differs : (d : Desc) → description (Differs d) ≡ differs (description d)
+description_differs d = ap description (sym (rolls-Differs d)) ∙ fold-roll-Desc Description description_step (Desc-F.Differs d)
+
+pub description_meet : (p q : List ℕ) → description (Meet p q) ≡ path_equation p q
 description_meet p q = ap description (sym (rolls-Meet p q)) ∙ fold-roll-Desc Description description_step (Desc-F.Meet p q)
 
-pub ruleset description_rules = (description_type, description_slot, description_at, description_all, description_any, description_meet)
+pub ruleset description_rules = (description_type, description_slot, description_at, description_all, description_any, description_differs, description_meet)

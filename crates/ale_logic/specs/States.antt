@@ -1,93 +1,114 @@
--- States of the search: the facts so far, what variables are bound to and what is still to be imposed, the
--- start of a search for what satisfies a description, and when a feature structure satisfies a state.
--- Source: most general satisfiers, Carpenter 1992, chapter 4; the order of the search is this project's own.
-use Rattle.std.specs.Prelude.{◌≡◌, ℕ, ◌<◌, Option, Some, None, List, [], ◌∷◌, length, get_or, replicate}
-use Rattle.ale_declared.specs.Lists.{Has}
-use Rattle.ale_hierarchy.specs.Hierarchy.{Hierarchy}
+-- States of the search: the facts so far, what variables and words stand for, and what is still to be done, in
+-- order. Source: most general satisfiers, Carpenter 1992, chapter 4; the order of the search is this project's own.
+use Rattle.std.specs.Prelude.{ℕ, suc, ◌+◌, Option, Some, None, List, [], ◌∷◌, ◌++◌, get_or, replicate, slice_set}
 use Rattle.ale_graph.specs.declared.fact.Fact.{Fact}
-use Rattle.ale_graph.specs.declared.fact.Fact.TheVariants.{OfType}
-use Rattle.ale_graph.specs.Structures.{Structure, value_of}
-use Rattle.ale_graph.specs.Facts.{Fulfils, Fits}
-use Rattle.ale_logic.specs.Descriptions.{Description, LeadsTo, EndTogether, HoldsAt, FitsPath, FitsDescription}
+use Rattle.ale_logic.specs.Descriptions.{Description}
+use Rattle.ale_logic.specs.Goals.{Goal}
+use Rattle.ale_logic.specs.Programs.{Word, Element, member, tail}
+use Rattle.ale_logic.specs.Words.{Environment, bound_in}
 
 -- what is demanded of a node
 pub data Demand : Type 0 where
-  -- the description holds at it
-  holds : Description → Demand
+  -- the description holds at it, in the environment with this number
+  holds : ℕ → Description → Demand
   -- the path from it, and the other path from the other node, end at one node
-  meets : List ℕ → ℕ → List ℕ → Demand
+  ends_with : List ℕ → ℕ → List ℕ → Demand
   -- the path from it ends at the other node
   leads : List ℕ → ℕ → Demand
+  -- words are found for it, as the phrase with this number; for each member of the list that it is
+  generates : ℕ → Demand
+  generates_all : ℕ → Demand
 
+-- what a pivot is to be connected to: the node for which words are found, as the phrase with its number, after so many
+-- rules
+pub record Target : Type 0 where
+  pub node : ℕ
+  pub phrase : ℕ
+  pub steps : ℕ
+
+-- a piece of a phrase: a word, or the phrase with this number
+pub data Piece : Type 0 where
+  word : Word → Piece
+  phrase : ℕ → Piece
+
+-- what is still to be done
 pub data Item : Type 0 where
-  -- of the node
+  -- a demand of the node; a demand of the value of the node by the feature
   on : ℕ → Demand → Item
-  -- of the value of the node by the feature
   take : ℕ → ℕ → Demand → Item
+  -- the goal is derived, in the environment and with the cut height given; the predicate is called of nodes
+  derive : ℕ → ℕ → Goal → Item
+  called : ℕ → List ℕ → Item
+  -- all but so many of the states that wait are dropped; nothing comes of the state
+  cuts : ℕ → Item
+  stop : Item
+  -- the node is an open list, whose members are the next elements; where it ends and no element remains, the
+  -- description holds at a node
+  split : ℕ → Option (ℕ × Description) → Item
+  -- a pivot with this semantics is found for the target; the node, with the pieces of its phrase, is connected to it
+  pivot : ℕ → Target → Item
+  connect : ℕ → List Piece → Target → Item
 
--- Each slot's node, where its variable is bound. A description has one environment for all its variables;
--- where a search comes to use several, a state has a list of them, and each description names its own.
-abbrev pub Environment : Type 0
-Environment = List (Option ℕ)
+-- the environment with this number, and what a variable of it is bound to
+abbrev pub env_at : List Environment → ℕ → Environment
+env_at envs e = get_or envs e []
 
-abbrev pub bound : Environment → ℕ → Option ℕ
-bound env v = get_or env v None
+abbrev pub bound : List Environment → ℕ → ℕ → Option ℕ
+bound envs e v = bound_in (env_at envs e) v
 
--- facts about the nodes below next, the environment, and what is still to be imposed, in order
+-- facts about the nodes below next, the nodes at which constraints were imposed, the environments, the phrases,
+-- the kids chosen so far, what is still to be done, and the elements that remain of a chart item
 pub record State : Type 0 where
   pub facts : List Fact
   pub next : ℕ
-  pub env : Environment
+  pub imposed : List (ℕ × ℕ)
+  pub envs : List Environment
+  -- the next phrase, and of which pieces phrases were found to consist
+  pub phrases : ℕ
+  pub said : List (ℕ × List Piece)
+  -- the number of the kid at each state before
+  pub choices : List ℕ
   pub agenda : List Item
+  pub rest : List Element
 
--- node 0, at which the description is to hold, with so many variables, which are all unbound
-abbrev pub start : ℕ → Description → State
-start slots d = record { facts = []; next = 1; env = replicate slots None; agenda = on 0 (holds d) ∷ [] }
+-- How a state goes on: with one more fact, with items before what is there, with new nodes, with a new
+-- environment, with a variable bound.
+abbrev pub told : Fact → State → State
+told x st = record st { facts = st.facts ++ x ∷ [] }
 
--- the demand is met by node n of s, where each node of the state stands for the node of s that `to` gives
-abbrev pub IsMet : Hierarchy → Structure → (ℕ → ℕ) → (ℕ → ℕ) → Demand → ℕ → Type 0
-IsMet h s assign to (holds d) n = HoldsAt h s assign d n
-IsMet h s assign to (meets p b q) n = EndTogether s n p (to b) q
-IsMet h s assign to (leads q a) n = LeadsTo s n q (to a)
+abbrev pub doing : Item → State → State
+doing i st = record st { agenda = i ∷ st.agenda }
 
-abbrev pub HoldsItem : Hierarchy → Structure → (ℕ → ℕ) → (ℕ → ℕ) → Item → Type 0
-HoldsItem h s assign to (on n x) = IsMet h s assign to x (to n)
-HoldsItem h s assign to (take n f x) = (m : ℕ) × (value_of s (to n) f ≡ Some m) × IsMet h s assign to x m
+abbrev pub doing_all : List Item → State → State
+doing_all items st = record st { agenda = items ++ st.agenda }
 
-abbrev pub HoldItems : Hierarchy → Structure → (ℕ → ℕ) → (ℕ → ℕ) → List Item → Type 0
-HoldItems h s assign to [] = Unit {0}
-HoldItems h s assign to (i ∷ is) = HoldsItem h s assign to i × HoldItems h s assign to is
+abbrev pub grown : ℕ → State → State
+grown k st = record st { next = st.next + k }
 
--- each bound variable stands for what its node stands for
-abbrev pub IsBound : Environment → (ℕ → ℕ) → (ℕ → ℕ) → Type 0
-IsBound env assign to = (v n : ℕ) → bound env v ≡ Some n → assign v ≡ to n
+abbrev pub with_env : ℕ → State → State
+with_env slots st = record st { envs = st.envs ++ replicate slots None ∷ [] }
 
--- all facts and all items of the state hold in s, and the assignment agrees with the environment
-pub record Satisfies (h : Hierarchy) (s : Structure) (assign to : ℕ → ℕ) (st : State) : Type 0 where
-  pub fulfils : Fulfils h s to st.facts st.next
-  pub is_bound : IsBound st.env assign to
-  pub items : HoldItems h s assign to st.agenda
+abbrev pub bind : ℕ → ℕ → ℕ → State → State
+bind e v n st = record st { envs = slice_set st.envs e (slice_set (env_at st.envs e) v (Some n)) }
 
--- the demand speaks of known nodes and variables
-abbrev pub FitsDemand : Hierarchy → ℕ → ℕ → Demand → Type 0
-FitsDemand h slots next (holds d) = FitsDescription h slots d
-FitsDemand h slots next (meets p b q) = FitsPath h p × (b < next) × FitsPath h q
-FitsDemand h slots next (leads q a) = FitsPath h q × (a < next)
+-- with a constraint imposed, with so many new phrases, with a phrase found to consist of pieces
+abbrev pub imposing : ℕ → ℕ → State → State
+imposing n k st = record st { imposed = st.imposed ++ (n, k) ∷ [] }
 
--- so does the item; a value is taken only after the node was told to have it
-abbrev pub FitsItem : Hierarchy → ℕ → List Fact → ℕ → Item → Type 0
-FitsItem h slots facts next (on n x) = (n < next) × FitsDemand h slots next x
-FitsItem h slots facts next (take n f x) = (n < next) × (f < h.features) × FitsDemand h slots next x × Has facts (OfType n (h.intro f))
+abbrev pub with_phrases : ℕ → State → State
+with_phrases k st = record st { phrases = st.phrases + k }
 
-abbrev pub FitItems : Hierarchy → ℕ → List Fact → ℕ → List Item → Type 0
-FitItems h slots facts next [] = Unit {0}
-FitItems h slots facts next (i ∷ is) = FitsItem h slots facts next i × FitItems h slots facts next is
+abbrev pub say : ℕ → List Piece → State → State
+say g pieces st = record st { said = st.said ++ (g, pieces) ∷ [] }
 
--- variables are bound to nodes below next
-abbrev pub IsBelow : ℕ → Environment → Type 0
-IsBelow next env = (v n : ℕ) → bound env v ≡ Some n → n < next
+-- with the member and the tail of a list before the elements that remain
+abbrev pub remaining : ℕ → State → State
+remaining n st = record st { rest = member n ∷ tail n ∷ st.rest }
 
-pub record IsState (h : Hierarchy) (st : State) : Type 0 where
-  pub facts : Fits h st.facts st.next
-  pub below : IsBelow st.next st.env
-  pub items : FitItems h (length st.env) st.facts st.next st.agenda
+-- as the kid with this number; the kids numbered from k on
+abbrev pub chosen : ℕ → State → State
+chosen k st = record st { choices = st.choices ++ k ∷ [] }
+
+abbrev pub numbered : ℕ → List State → List State
+numbered k [] = []
+numbered k (st ∷ sts) = chosen k st ∷ numbered (suc k) sts

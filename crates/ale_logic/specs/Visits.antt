@@ -1,118 +1,116 @@
--- The defined search: what one visit of a state gives, and the answers and the number of visits of a search
--- that visits the first waiting state again and again, within a budget.
--- Source: the order of visits is this project's own.
-use Rattle.std.specs.Prelude.{ℕ, zero, suc, Bool, true, false, Option, Some, None, List, [], ◌∷◌, ◌++◌, slice_set}
+-- The defined search: what one visit of a state gives, while so many others wait. A constraint that is owed
+-- comes before what is to be done. The order of visits is this project's own.
+use Rattle.std.specs.Prelude.{ℕ, suc, Bool, false, ◌&&◌, not, ◌||◌, eqb, Option, Some, None, List, [], ◌∷◌, if◌then◌else◌}
 use Rattle.ale_hierarchy.specs.Hierarchy.{Hierarchy}
-use Rattle.ale_graph.specs.declared.fact.Fact.{Fact}
-use Rattle.ale_graph.specs.declared.fact.Fact.TheVariants.{OfType, Same}
+use Rattle.ale_graph.specs.declared.fact.Fact.TheVariants.{OfType}
 use Rattle.ale_graph.specs.declared.closed.Closed.{Closed}
+use Rattle.ale_graph.specs.Settled.{first_some}
+use Rattle.ale_graph.specs.Structures.{type_of}
 use Rattle.ale_graph.specs.Filling.{class_value}
-use Rattle.ale_graph.specs.Closure.{close, class_of}
-use Rattle.ale_logic.specs.declared.answer.Answer.{Answer}
-use Rattle.ale_logic.specs.Descriptions.{Descriptions, of_type, slot, at, all, any, meet, none, more}
-use Rattle.ale_logic.specs.States.{Demand, holds, meets, leads, Item, on, take, Environment, bound, State}
+use Rattle.ale_graph.specs.Closure.{close, class_of, node_of, classes_below}
+use Rattle.ale_logic.specs.Descriptions.{of_type, slot, at, all, any, differs, path_equation}
+use Rattle.ale_logic.specs.Goals.{Goal, yes, cut, each, either, equal, call, unless, if_else, once}
+use Rattle.ale_logic.specs.Programs.{Constraint, clauses_of}
+use Rattle.ale_logic.specs.Words.{Grammar}
+use Rattle.ale_logic.specs.States.{holds, ends_with, leads, generates, generates_all, Item, on, take, derive, called, cuts, stop, split, pivot, connect, bound, State, told, doing_all, numbered}
+use Rattle.ale_engine.specs.Engine.{Visit, answers, goes}
+use Rattle.ale_logic.specs.DescriptionKids.{stepping, leading, equating_paths, binding, items_at, alternatives, differing, taken}
+use Rattle.ale_logic.specs.GoalKids.{goal_kids, clause_kids, with_constraint}
+use Rattle.ale_logic.specs.GenerationKids.{generate_kids, pivot_kids, connect_kids, list_kids, split_kids}
 
--- a state goes on from its closure
-abbrev pub going : Closed → List Fact → Environment → List Item → State
-going c facts env agenda = record { facts = facts; next = c.next; env = env; agenda = agenda }
+-- the kids of an item, from the state at its closure without the item
+abbrev pub kids : Grammar → ℕ → Closed → Item → State → List State
+kids gr waiting c (on n (holds e (of_type t))) st = told (OfType n t) st ∷ []
+kids gr waiting c (on n (holds e (slot v))) st = binding e v n (bound st.envs e v) st ∷ []
+kids gr waiting c (on n (holds e (at f d))) st = stepping gr.signature n f (holds e d) st ∷ []
+kids gr waiting c (on n (holds e (all ds))) st = doing_all (items_at e n ds) st ∷ []
+kids gr waiting c (on n (holds e (any ds))) st = alternatives e n ds st
+kids gr waiting c (on n (holds e (differs d))) st = differing e n d st ∷ []
+kids gr waiting c (on n (holds e (path_equation p q))) st = equating_paths gr.signature n p n q st ∷ []
+kids gr waiting c (on a (ends_with p b q)) st = equating_paths gr.signature a p b q st ∷ []
+kids gr waiting c (on b (leads q a)) st = leading gr.signature b q a st ∷ []
+kids gr waiting c (on n (generates g)) st = generate_kids gr.program.semantics n g st
+kids gr waiting c (on n (generates_all g)) st = list_kids gr.program.lists n g st
+kids gr waiting c (take n f d) st = taken d (class_value (class_of c) c.facts (class_of c n) f) st
+kids gr waiting c (derive e h g) st = goal_kids waiting e h g st
+kids gr waiting c (called p ns) st = clause_kids waiting ns (clauses_of gr.program p) st
+kids gr waiting c (cuts h) st = st ∷ []
+kids gr waiting c stop st = []
+kids gr waiting c (split n end) st = split_kids gr.program.lists n end st
+kids gr waiting c (pivot s target) st = pivot_kids gr waiting gr.program.semantics s target st
+kids gr waiting c (connect p us target) st = connect_kids gr waiting p us target st
 
--- with one more fact
-abbrev pub going_with : Closed → Fact → Environment → List Item → State
-going_with c x env agenda = going c (c.facts ++ x ∷ []) env agenda
+-- of so many states that wait, how many stay after a goal or an item
+abbrev pub stay_after : ℕ → ℕ → Goal → ℕ
+stay_after waiting h cut = h
+stay_after waiting h yes = waiting
+stay_after waiting h (each gs) = waiting
+stay_after waiting h (either gs) = waiting
+stay_after waiting h (equal d e) = waiting
+stay_after waiting h (call p ds) = waiting
+stay_after waiting h (unless g) = waiting
+stay_after waiting h (if_else g t f) = waiting
+stay_after waiting h (once g t) = waiting
 
--- the node is told to have the feature, and then its value is taken
-abbrev pub stepping : Hierarchy → Closed → Environment → List Item → ℕ → ℕ → Demand → State
-stepping h c env rest n f x = going_with c (OfType n (h.intro f)) env (take n f x ∷ rest)
+abbrev pub stay : ℕ → Item → ℕ
+stay waiting (derive e h g) = stay_after waiting h g
+stay waiting (cuts h) = h
+stay waiting (on n d) = waiting
+stay waiting (take n f d) = waiting
+stay waiting (called p ns) = waiting
+stay waiting stop = waiting
+stay waiting (split n end) = waiting
+stay waiting (pivot s target) = waiting
+stay waiting (connect p us target) = waiting
 
--- a path from b is to end at a
-abbrev pub leading : Hierarchy → Closed → Environment → List Item → ℕ → List ℕ → ℕ → State
-leading h c env rest b [] a = going_with c (Same a b) env rest
-leading h c env rest b (f ∷ q) a = stepping h c env rest b f (leads q a)
+-- an imposed pair names the constraint with number k and a node of class a
+abbrev pub is_imposed : (ℕ → ℕ) → List (ℕ × ℕ) → ℕ → ℕ → Bool
+is_imposed class [] a k = false
+is_imposed class (p ∷ ps) a k = (eqb (class p.0) a && eqb p.1 k) || is_imposed class ps a k
 
--- a path from a and one from b are to end at one node: first the path from a, then the other
-abbrev pub meeting : Hierarchy → Closed → Environment → List Item → ℕ → List ℕ → ℕ → List ℕ → State
-meeting h c env rest a [] b q = leading h c env rest b q a
-meeting h c env rest a (f ∷ p) b q = stepping h c env rest a f (meets p b q)
+-- a class, the number of a constraint that it owes, and the constraint
+pub record Owed : Type 0 where
+  pub class : ℕ
+  pub number : ℕ
+  pub constraint : Constraint
 
--- a variable is bound to the node, or its node is the same
-abbrev pub binding : Closed → Environment → List Item → ℕ → ℕ → Option ℕ → State
-binding c env rest v n None = going c c.facts (slice_set env v (Some n)) rest
-binding c env rest v n (Some m) = going_with c (Same n m) env rest
+-- the first of the constraints, numbered from k on, that class a owes
+abbrev pub owed_by : Hierarchy → Closed → List (ℕ × ℕ) → ℕ → ℕ → List Constraint → Option Owed
+owed_by h c imposed a k [] = None
+owed_by h c imposed a k (x ∷ xs) =
+    if h.is_above x.of (type_of c.graph (node_of c a)) && not (is_imposed (class_of c) imposed a k)
+    then Some (record { class = a; number = k; constraint = x })
+    else owed_by h c imposed a (suc k) xs
 
--- each of the descriptions at the node, before what is there
-abbrev pub items_at : ℕ → Descriptions → List Item → List Item
-items_at n none rest = rest
-items_at n (more d ds) rest = on n (holds d) ∷ items_at n ds rest
+-- the least class that owes a constraint, and the first constraint that it owes
+abbrev pub owed : Grammar → Closed → List (ℕ × ℕ) → Option Owed
+owed gr c imposed = first_some (λ a. owed_by gr.signature c imposed a 0 gr.program.constraints) (classes_below (class_of c) c.next)
 
--- a state for each of the descriptions at the node, in order
-abbrev pub choices : Closed → Environment → List Item → ℕ → Descriptions → List State
-choices c env rest n none = []
-choices c env rest n (more d ds) = going c c.facts env (on n (holds d) ∷ rest) ∷ choices c env rest n ds
+-- a state at its closure, with so many items
+abbrev pub closed_at : Closed → List Item → State → State
+closed_at c agenda st = record st { facts = c.facts; next = c.next; agenda = agenda }
 
--- what is demanded of the value, where there is one
-abbrev pub taken : Closed → Environment → List Item → Demand → Option ℕ → List State
-taken c env rest x None = []
-taken c env rest x (Some m) = going c c.facts env (on m x ∷ rest) ∷ []
+-- the state in which something was found, and its closure
+pub record Answer : Type 0 where
+  pub closed : Closed
+  pub state : State
 
--- the kids of a state with closure c, by its first item
-abbrev pub kids : Hierarchy → Closed → Environment → Item → List Item → List State
-kids h c env (on n (holds (of_type t))) rest = going_with c (OfType n t) env rest ∷ []
-kids h c env (on n (holds (slot v))) rest = binding c env rest v n (bound env v) ∷ []
-kids h c env (on n (holds (at f d))) rest = stepping h c env rest n f (holds d) ∷ []
-kids h c env (on n (holds (all ds))) rest = going c c.facts env (items_at n ds rest) ∷ []
-kids h c env (on n (holds (any ds))) rest = choices c env rest n ds
-kids h c env (on n (holds (meet p q))) rest = meeting h c env rest n p n q ∷ []
-kids h c env (on a (meets p b q)) rest = meeting h c env rest a p b q ∷ []
-kids h c env (on b (leads q a)) rest = leading h c env rest b q a ∷ []
-kids h c env (take n f x) rest = taken c env rest x (class_value (class_of c) c.facts (class_of c n) f)
+-- A state with nothing to do is an answer; else its first item gives its kids, and tells how many of the waiting
+-- states stay.
+abbrev pub visit_item : Grammar → ℕ → Closed → List Item → State → Visit State Answer
+visit_item gr waiting c [] st = answers (record { closed = c; state = st })
+visit_item gr waiting c (i ∷ is) st = goes (stay waiting i) (numbered 0 (kids gr waiting c i (closed_at c is st)))
 
--- a state without closure fails, one with nothing left to impose is an answer, and any other has kids
-pub data Visit : Type 0 where
-  fails : Visit
-  answers : Answer → Visit
-  goes : List State → Visit
+-- a constraint that is owed is imposed first
+abbrev pub visit_owed : Grammar → ℕ → Closed → Option Owed → State → Visit State Answer
+visit_owed gr waiting c None st = visit_item gr waiting c st.agenda st
+visit_owed gr waiting c (Some o) st = goes waiting (numbered 0 (with_constraint waiting o.class o.number o.constraint (closed_at c st.agenda st) ∷ []))
 
-abbrev pub visit_of : Hierarchy → Environment → List Item → Option Closed → Visit
-visit_of h env agenda None = fails
-visit_of h env [] (Some c) = answers (record { closed = c; env = env })
-visit_of h env (i ∷ is) (Some c) = goes (kids h c env i is)
+-- a state without closure has no kids
+abbrev pub visit_of : Grammar → ℕ → Option Closed → State → Visit State Answer
+visit_of gr waiting None st = goes waiting []
+visit_of gr waiting (Some c) st = visit_owed gr waiting c (owed gr c st.imposed) st
 
-unfoldable pub visit : Hierarchy → State → Visit
-visit h st = visit_of h st.env st.agenda (close h st.facts st.next)
-
--- the answers in order, how many visits were made, and whether no state waits any more
-pub record Outcome : Type 0 where
-  pub answers : List Answer
-  pub visits : ℕ
-  pub finished : Bool
-
-abbrev pub visited : Outcome → Outcome
-visited o = record { answers = o.answers; visits = suc o.visits; finished = o.finished }
-
-abbrev pub answered : Answer → Outcome → Outcome
-answered c o = record { answers = c ∷ o.answers; visits = suc o.visits; finished = o.finished }
-
--- kids go before the states that wait
-abbrev pub after : (List State → Outcome) → List State → Visit → Outcome
-after go waiting fails = visited (go waiting)
-after go waiting (answers c) = answered c (go waiting)
-after go waiting (goes ks) = visited (go (ks ++ waiting))
-
--- a search with a budget of visits
-abbrev pub search : Hierarchy → ℕ → List State → Outcome
-search h zero [] = record { answers = []; visits = 0; finished = true }
-search h zero (st ∷ waiting) = record { answers = []; visits = 0; finished = false }
-search h (suc left) [] = record { answers = []; visits = 0; finished = true }
-search h (suc left) (st ∷ waiting) = after (search h left) waiting (visit h st)
-
--- what waits after a visit
-abbrev pub behind : List State → Visit → List State
-behind waiting fails = waiting
-behind waiting (answers c) = waiting
-behind waiting (goes ks) = ks ++ waiting
-
--- what waits after so many visits
-abbrev pub waiting_after : Hierarchy → ℕ → List State → List State
-waiting_after h zero waiting = waiting
-waiting_after h (suc n) [] = []
-waiting_after h (suc n) (st ∷ waiting) = waiting_after h n (behind waiting (visit h st))
+-- a visit of a state, while so many others wait
+unfoldable pub visit : Grammar → ℕ → State → Visit State Answer
+visit gr waiting st = visit_of gr waiting (close gr.signature st.facts st.next) st

@@ -14,6 +14,8 @@ pub enum Desc {
     All(Items<Desc>),
     /// At least one of these holds.
     Any(Items<Desc>),
+    /// It holds at some other node.
+    Differs(Boxed<Desc>),
     /// Both paths of features are there, and end at one node.
     Meet(Row<FeatId>, Row<FeatId>),
 }

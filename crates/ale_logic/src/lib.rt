@@ -1,10 +1,9 @@
-//! Descriptions of feature structures, what they mean, and the defined search for what satisfies them.
+//! Descriptions of feature structures and programs as plain data, what they mean, and the defined search for what
+//! satisfies them.
 #![tactic(auto)]
 
 mod answer;
 mod desc;
-mod laws;
 
 pub use answer::Answer;
 pub use desc::Desc;
-pub use laws::{run_law, search_law};
