@@ -1,4 +1,9 @@
+pub mod Answers
+pub mod First
+pub mod Kept
 pub mod Puts
+pub mod Rises
 pub mod Runs
 pub mod Spells
 pub mod Stays
+pub mod Wholes

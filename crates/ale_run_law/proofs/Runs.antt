@@ -20,7 +20,7 @@ use Rattle.ale_logic.specs.Spelling.{spell}
 use Rattle.ale_logic.specs.Visits.{Answer, visit}
 use Rattle.ale_logic.specs.Satisfaction.{Sense, HoldItems, IsBound, IsSaid, Satisfies, Agrees}
 use Rattle.ale_logic.specs.WellFormed.{IsState, AreQuietItems, ArePlainItems, IsSaidOnce}
-use Rattle.ale_logic.specs.Steps.{IsGrammar, IsAccounted, IsAllImposed, SatisfiesBefore, SatisfiesOne, IsKid, IsAnswerOf, IsVisitKid, IsSatisfiable, StepLaw, StepLaws, LogicLaw, LogicLaws}
+use Rattle.ale_logic.specs.Steps.{IsGrammar, IsAccounted, IsAllImposed, SatisfiesBefore, SatisfiesOne, IsKid, IsAnswerOf, IsVisitKid, ModelSatisfies, IsInFragment, StepLaw, StepLaws, LogicLaw, LogicLaws}
 use Rattle.ale_logic.specs.Runs.{AreStates, MeetsPairs, IsReached, FreeSense, Returns, IsAnswer, IsInto, AreInFragment, ComesFrom, SatisfiesFirst, RunLaw, RunLaws}
 
 last_has : {A : Type 0} (n : ℕ) (xs : List A) (x : A) → Has (last n xs) x → Has xs x
@@ -139,23 +139,13 @@ module _ (steps : StepLaws) (logic : LogicLaws) (gr : Grammar) (grammar : IsGram
     once = λ once. of.once (k.once once);
   }
 
-  -- inside the fragment, what waits behind a state is too, and so is what waits after its visit
-  fewer : (st : State) (waiting : List State) → AreInFragment gr (st ∷ waiting) → AreInFragment gr waiting
-  fewer st waiting inside = record { program = inside.program; states = λ y k. inside.states y (inr k) }
+  inner : (st : State) (waiting : ℕ) → IsState gr.signature st → IsInFragment gr st → LogicLaw gr waiting st
+  inner st waiting is inside = logic gr waiting st grammar is inside
 
-  inner : (st : State) (waiting : List State) → IsState gr.signature st → AreInFragment gr (st ∷ waiting) → LogicLaw gr (length waiting) st
-  inner st waiting is inside = logic gr (length waiting) st grammar inside.program is (inside.states st (inl refl))
+  kid_inside : (st kid : State) (waiting : ℕ) → IsState gr.signature st → IsVisitKid gr waiting st kid → IsInFragment gr st → IsInFragment gr kid
+  kid_inside st kid waiting is e inside = record { program = inside.program; items = (inner st waiting is inside).plain kid e }
 
-  after_visit : (st : State) (waiting : List State) (n : ℕ) (ks : List State) → IsState gr.signature st → goes n ks ≡ visit gr (length waiting) st → AreInFragment gr (st ∷ waiting) → AreInFragment gr (ks ++ last n waiting)
-  after_visit st waiting n ks is e inside = record {
-    program = inside.program;
-    states = λ y k. elim (has_either ks (last n waiting) y k) [
-      | inl there ↦ (inner st waiting is inside).plain y (record { stay = n; kids = ks; goes_on = e; has = there })
-      | inr there ↦ inside.states y (inr (last_has n waiting y there))
-    ];
-  }
-
-  kid_returns : (st kid : State) (waiting : List State) → IsState gr.signature st → IsVisitKid gr (length waiting) st kid → AreInFragment gr (st ∷ waiting) →
+  kid_returns : (st kid : State) (waiting : ℕ) → IsState gr.signature st → IsVisitKid gr waiting st kid → IsInFragment gr st →
     (a : Answer) (s : Structure) (map : ℕ → ℕ) (free : FreeSense s a) → Returns gr s kid a map free → Returns gr s st a map free
   kid_returns st kid waiting is e inside a s map free r =
       let down = (inner st waiting is inside).down kid e s r.sense a.state.rest r.satisfies in
@@ -211,18 +201,18 @@ module _ (steps : StepLaws) (logic : LogicLaws) (gr : Grammar) (grammar : IsGram
               state = st;
               has = inl refl;
               is = before st c.state a (law.kids_are_states c.state kid) c.is;
-              back = λ inside s map into free. kid_returns st c.state waiting is kid inside a s map free (c.back (after_visit st waiting n ks is e inside) s map into free);
+              back = λ inside s map into free. kid_returns st c.state (length waiting) is kid inside a s map free (c.back (kid_inside st c.state (length waiting) is kid inside) s map into free);
             }
         | inr there ↦ record {
             state = c.state;
             has = inr (last_has n waiting c.state there);
             is = c.is;
-            back = λ inside. c.back (after_visit st waiting n ks is e inside);
+            back = c.back;
           }
       ]
 
       later_one : ComesFrom gr waiting a → ComesFrom gr (st ∷ waiting) a
-      later_one c = record { state = c.state; has = inr c.has; is = c.is; back = λ inside. c.back (fewer st waiting inside) }
+      later_one c = record { state = c.state; has = inr c.has; is = c.is; back = c.back }
 
       go : Later → (v : Visit State Answer) → v ≡ visit gr (length waiting) st → Has ((moved waiting v).found ++ answers_in (visit gr) left (moved waiting v).waiting) a → ComesFrom gr (st ∷ waiting) a
       go later (answers b) e (inl same) = subst (ComesFrom gr (st ∷ waiting)) (sym same) (here b e)
@@ -298,6 +288,12 @@ module _ (steps : StepLaws) (logic : LogicLaws) (gr : Grammar) (grammar : IsGram
           | inr there ↦ states z (inr (last_has n waiting z there))
         ]
 
+        after_visit : (n : ℕ) (ks : List State) → goes n ks ≡ visit gr (length waiting) st → AreInFragment gr (ks ++ last n waiting)
+        after_visit n ks e z k = elim (has_either ks (last n waiting) z k) [
+          | inl there ↦ kid_inside st z (length waiting) is (record { stay = n; kids = ks; goes_on = e; has = there }) (inside st (inl refl))
+          | inr there ↦ inside z (inr (last_has n waiting z there))
+        ]
+
         go : Later → (v : Visit State Answer) → v ≡ visit gr (length waiting) st → is_nothing (waiting_after (visit gr) left (moved waiting v).waiting) ≡ true →
           IsReached gr s y x remain ((moved waiting v).found ++ answers_in (visit gr) left (moved waiting v).waiting)
         go later (answers b) e fin = elim has [
@@ -308,7 +304,7 @@ module _ (steps : StepLaws) (logic : LogicLaws) (gr : Grammar) (grammar : IsGram
               subst (λ z. IsReached gr s z x remain (b ∷ answers_in (visit gr) left waiting)) (sym equal)
                 (reaches_itself st b own k s model.structure x remain (subst (λ z. Satisfies gr s x z remain) equal sat) (b ∷ answers_in (visit gr) left waiting) (inl refl))
           | inr there ↦ more_found s y x remain (b ∷ []) (answers_in (visit gr) left waiting)
-              (later waiting (λ z k. states z (inr k)) (fewer st waiting inside) fin y there x sat)
+              (later waiting (λ z k. states z (inr k)) (λ z k. inside z (inr k)) fin y there x sat)
         ]
         go later (goes n ks) e fin = elim has [
           | inl same ↦
@@ -316,10 +312,10 @@ module _ (steps : StepLaws) (logic : LogicLaws) (gr : Grammar) (grammar : IsGram
               let kid = law.kids_are_states up.state (record { stay = n; kids = ks; goes_on = e; has = up.has }) in
               subst (λ z. IsReached gr s z x remain (answers_in (visit gr) left (ks ++ last n waiting))) (sym same)
                 (kid_reached s st up.state x up.sense remain (answers_in (visit gr) left (ks ++ last n waiting)) kid up.agrees
-                  (later (ks ++ last n waiting) (kids n ks e) (after_visit st waiting n ks is e inside) fin up.state (has_left ks (last n waiting) up.state up.has) up.sense up.satisfies))
+                  (later (ks ++ last n waiting) (kids n ks e) (after_visit n ks e) fin up.state (has_left ks (last n waiting) up.state up.has) up.sense up.satisfies))
           | inr there ↦
-              let all : last n waiting ≡ waiting = last_all n waiting ((inner st waiting is inside).all_stay n ks e) in
-              later (ks ++ last n waiting) (kids n ks e) (after_visit st waiting n ks is e inside) fin y (has_right ks (last n waiting) y (subst (λ zs. Has zs y) (sym all) there)) x sat
+              let all : last n waiting ≡ waiting = last_all n waiting ((inner st (length waiting) is (inside st (inl refl))).all_stay n ks e) in
+              later (ks ++ last n waiting) (kids n ks e) (after_visit n ks e) fin y (has_right ks (last n waiting) y (subst (λ zs. Has zs y) (sym all) there)) x sat
         ]
 
 pub run_law : StepLaws → LogicLaws → RunLaws
