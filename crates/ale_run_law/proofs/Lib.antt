@@ -1,6 +1,8 @@
 pub mod Answers
+pub mod Enough
 pub mod First
 pub mod Kept
+pub mod LexiconBudgets
 pub mod Puts
 pub mod Rises
 pub mod Runs
