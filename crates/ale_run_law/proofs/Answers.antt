@@ -1,5 +1,5 @@
 -- What the answers for a description and for a goal mean, from whole searches.
-use Rattle.std.proofs.Common.{◌≡◌, ℕ, zero, suc, ◌+◌, ◌<◌, ◌≤◌, true, List, [], ◌∷◌, length, replicate, ◌⊎◌, inl, inr, refl, sym, ap, ◌∙◌, subst, arith, Option, Some, None}
+use Rattle.std.proofs.Common.{◌≡◌, ℕ, ◌<◌, true, [], ◌∷◌, inl, inr, refl, sym, ap, ◌∙◌, subst, arith, Option, Some, None}
 use Rattle.std.proofs.Math.Path.{fun_ext}
 use Rattle.ale_declared.specs.Lists.{Has}
 use Rattle.ale_hierarchy.specs.Hierarchy.{Hierarchy}
@@ -8,11 +8,10 @@ use Rattle.ale_graph.specs.Morphisms.{IsMorphismAside}
 use Rattle.ale_graph.specs.Closure.{node_of}
 use Rattle.ale_logic.specs.Descriptions.{Description, HoldsAt, IsAssignment, Describes, FitsDescription}
 use Rattle.ale_logic.specs.Goals.{Goal, FitsGoal, IsPlain}
-use Rattle.ale_logic.specs.Programs.{Word, Program}
+use Rattle.ale_logic.specs.Programs.{Program}
 use Rattle.ale_logic.specs.Derivations.{Derivable}
 use Rattle.ale_logic.specs.Models.{IsModel}
 use Rattle.ale_logic.specs.Solutions.{SolvesDescription, SolvesGoal}
-use Rattle.ale_logic.specs.Words.{Grammar}
 use Rattle.ale_logic.specs.States.{bound, State}
 use Rattle.ale_logic.specs.Starts.{start, start_goal}
 use Rattle.ale_logic.specs.StartLaws.{IsQuietStart}
@@ -21,8 +20,8 @@ use Rattle.ale_logic.specs.Visits.{Answer}
 use Rattle.ale_logic.specs.Satisfaction.{Sense, Satisfies}
 use Rattle.ale_logic.specs.WellFormed.{ArePlainItems}
 use Rattle.ale_logic.specs.Steps.{IsGrammar, IsBrought, IsInFragment}
-use Rattle.ale_logic.specs.Runs.{IsReached, FreeSense, IsInto, Returns, RunLaw, RunLaws}
-use Rattle.ale_logic.specs.Answers.{IsAccepted, SubsumesAt, found_from, DescriptionLaw, DescriptionLaws, node_for, SubsumesGoal, GoalLaw, GoalLaws}
+use Rattle.ale_logic.specs.Runs.{IsReached, FreeSense, Returns, RunLaw, RunLaws}
+use Rattle.ale_logic.specs.Answers.{IsAccepted, SubsumesAt, found_from, DescriptionLaws, node_for, SubsumesGoal, GoalLaws}
 use Rattle.ale_run_law.proofs.First.{none_bound, description_starts, goal_starts, stands, Came, only_state, only_inside, came_from, root_inside, free_at, all_met}
 
 module _ (runs : RunLaws) (h : Hierarchy) (program : Program) (accepted : IsAccepted h program) where

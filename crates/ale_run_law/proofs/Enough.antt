@@ -9,11 +9,10 @@ use Rattle.ale_graph.specs.Closure.{close, class_of, classes_below}
 use Rattle.ale_engine.specs.Engine.{moved, waiting_after, is_nothing}
 use Rattle.ale_engine.proofs.Budget.{none_after}
 use Rattle.ale_logic.specs.Descriptions.{Description, Descriptions, of_type, slot, at, all, any, differs, path_equation, none, more, HasNoChoice, HaveNoChoice, parts, parts_of_all}
-use Rattle.ale_logic.specs.Programs.{Constraint, Program}
 use Rattle.ale_logic.specs.Words.{Grammar}
-use Rattle.ale_logic.specs.States.{Demand, holds, ends_with, leads, generates, generates_all, Item, on, take, derive, called, cuts, stop, split, pivot, connect, bound, State, chosen, numbered}
+use Rattle.ale_logic.specs.States.{Demand, holds, ends_with, leads, generates, generates_all, Item, on, take, derive, called, cuts, stop, split, pivot, connect, bound, State, numbered}
 use Rattle.ale_logic.specs.DescriptionKids.{leading, equating_paths, binding, items_at, taken}
-use Rattle.ale_logic.specs.Visits.{Owed, owed_by, owed, closed_at, visit_item, visit_owed, visit_of, visit}
+use Rattle.ale_logic.specs.Visits.{owed_by, owed, closed_at, visit_item, visit_owed, visit_of, visit}
 use Rattle.ale_logic.specs.Starts.{start}
 use Rattle.ale_logic.specs.Lexicons.{wordless}
 use Rattle.ale_logic.specs.Answers.{EnoughLaw}

@@ -1,25 +1,23 @@
 -- The starts of a description, a goal and a generation are states; and what is known of an answer of a search that
 -- starts with one state.
-use Rattle.std.proofs.Common.{◌≡◌, ℕ, zero, suc, ◌+◌, ◌<◌, ◌≤◌, List, [], ◌∷◌, length, get_or, replicate, ◌⊎◌, inl, inr, refl, sym, ap, ◌∙◌, subst, arith, Option, Some, None}
+use Rattle.std.proofs.Common.{◌≡◌, ℕ, zero, suc, ◌+◌, ◌<◌, [], ◌∷◌, length, get_or, replicate, inl, inr, refl, sym, subst, arith, Option, Some, None}
 use Rattle.std.proofs.lemmas.List.{length-replicate}
 use Rattle.ale_declared.specs.Lists.{Has, sum_over}
 use Rattle.ale_hierarchy.specs.Hierarchy.{Hierarchy, IsLawful}
 use Rattle.ale_graph.specs.Structures.{Structure, IsStructure, count, type_of}
 use Rattle.ale_graph.specs.Morphisms.{IsMorphismAside}
 use Rattle.ale_graph.specs.Closure.{node_of}
-use Rattle.ale_engine.specs.Engine.{search}
 use Rattle.ale_logic.specs.Descriptions.{Description, FitsDescription}
-use Rattle.ale_logic.specs.Goals.{Goal, FitsGoal, IsPlain}
-use Rattle.ale_logic.specs.Programs.{Word, Program}
+use Rattle.ale_logic.specs.Goals.{Goal, FitsGoal}
 use Rattle.ale_logic.specs.Models.{MeetsAt}
-use Rattle.ale_logic.specs.Words.{Words, Grammar}
+use Rattle.ale_logic.specs.Words.{Grammar}
 use Rattle.ale_logic.specs.States.{bound, State}
 use Rattle.ale_logic.specs.Starts.{start, start_goal, start_gen}
 use Rattle.ale_logic.specs.StartLaws.{IsStart, IsQuietStart}
-use Rattle.ale_logic.specs.Visits.{Answer, visit}
+use Rattle.ale_logic.specs.Visits.{Answer}
 use Rattle.ale_logic.specs.WellFormed.{IsState, times_sought, times_found}
-use Rattle.ale_logic.specs.Steps.{IsGrammar, IsBrought, IsInFragment}
-use Rattle.ale_logic.specs.Runs.{AreStates, AreInFragment, FreeSense, IsInto, Returns, IsAnswer, ComesFrom, RunLaw, RunLaws}
+use Rattle.ale_logic.specs.Steps.{IsBrought, IsInFragment}
+use Rattle.ale_logic.specs.Runs.{AreStates, AreInFragment, FreeSense, IsInto, Returns, IsAnswer, ComesFrom}
 
 abbrev unbound : Option ℕ
 unbound = None

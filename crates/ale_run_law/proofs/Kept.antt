@@ -1,6 +1,5 @@
 -- What is kept of the answers for a description, whatever is kept.
-use Rattle.std.proofs.Common.{◌≡◌, ℕ, ◌+◌, ◌<◌, ◌≤◌, true, List, [], ◌∷◌, refl, sym, ap, ◌∙◌, subst, arith, Option, Some}
-use Rattle.std.proofs.lemmas.List.{length-map}
+use Rattle.std.proofs.Common.{◌≡◌, ℕ, ◌<◌, true, sym, ap, ◌∙◌, subst, arith, Some}
 use Rattle.ale_declared.specs.Lists.{Has}
 use Rattle.ale_hierarchy.specs.Hierarchy.{Hierarchy}
 use Rattle.ale_graph.specs.Structures.{Structure, IsStructure, count}
@@ -15,16 +14,16 @@ use Rattle.ale_logic.specs.States.{bound, env_at, State}
 use Rattle.ale_logic.specs.Starts.{start}
 use Rattle.ale_logic.specs.Lexicons.{wordless}
 use Rattle.ale_logic.specs.Visits.{Answer}
-use Rattle.ale_logic.specs.Parts.{Part, Extract, renamed, kept_answer}
-use Rattle.ale_logic.specs.WellFormed.{IsState, Scope, scope_of, FitsRest}
+use Rattle.ale_logic.specs.Parts.{Extract, renamed}
+use Rattle.ale_logic.specs.WellFormed.{scope_of, FitsRest}
 use Rattle.ale_logic.specs.Runs.{IsAnswer, RunLaws}
 use Rattle.ale_logic.specs.Extending.{HasSoundExtension}
-use Rattle.ale_logic.specs.PartLaws.{IsElementBelow, AreElementsBelow, IsReattached, IsPart, IsKeepable, PartLaw}
+use Rattle.ale_logic.specs.PartLaws.{IsElementBelow, IsPart, IsKeepable, PartLaw}
 use Rattle.ale_logic.specs.Answers.{IsAccepted, SubsumesAt, found_from}
-use Rattle.ale_logic.specs.LexiconLaws.{KeptLaw, KeptLaws}
+use Rattle.ale_logic.specs.LexiconLaws.{KeptLaws}
 use Rattle.ale_run_law.proofs.First.{Came, free_at, all_met, description_starts, root_inside}
 use Rattle.ale_run_law.proofs.Answers as answers
-use Rattle.ale_run_law.proofs.Wholes.{placed_bound}
+use Rattle.ale_extension_law.proofs.Wholes.{placed_bound}
 use Rattle.ale_run_law.proofs.Rises.{rise}
 
 -- All of an answer can be kept: what its state names has its class in its graph.

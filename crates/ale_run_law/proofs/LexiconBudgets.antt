@@ -1,9 +1,9 @@
 -- What a budget is to the lexicon: its levels one after the other, behind the declared words and the empties.
-use Rattle.std.proofs.Common.{◌≡◌, ℕ, zero, suc, ◌+◌, ◌-◌, ◌<◌, ◌≤◌, Bool, true, false, ◌&&◌, List, [], ◌∷◌, ◌++◌, map, length, length-append, ◌⊎◌, inl, inr, refl, sym, ap, ◌∙◌, subst, arith}
+use Rattle.std.proofs.Common.{◌≡◌, ℕ, zero, suc, ◌+◌, ◌-◌, ◌<◌, ◌≤◌, Bool, true, false, ◌&&◌, List, map, length, length-append, ◌⊎◌, inl, inr, refl, ap, ◌∙◌, arith}
 use Rattle.std.proofs.lemmas.Bool.{and_parts}
 use Rattle.ale_hierarchy.specs.Hierarchy.{Hierarchy}
-use Rattle.ale_engine.specs.Growth.{Task, Found, followed_by, run_all}
-use Rattle.ale_engine.specs.GrowthLaws.{IsCutOff, RunAllLaw}
+use Rattle.ale_engine.specs.Growth.{Found, followed_by, run_all}
+use Rattle.ale_engine.specs.GrowthLaws.{IsCutOff}
 use Rattle.ale_engine.proofs.InTurn.{run_all_law}
 use Rattle.ale_logic.specs.Programs.{Program}
 use Rattle.ale_logic.specs.Words.{Entry, Grammar}
@@ -11,7 +11,7 @@ use Rattle.ale_logic.specs.States.{State}
 use Rattle.ale_logic.specs.Visits.{Answer, visit}
 use Rattle.ale_logic.specs.Parts.{Extract}
 use Rattle.ale_logic.specs.Lexicons.{EntryTask, word_task, empty_task, level_tasks, levels, declared_words, declared_empties, Lexicon, lexicon_of, lexicon, wordless}
-use Rattle.ale_logic.specs.LexiconLaws.{IsLevelCutOff, IsLexiconCutOff, LexiconBudgetLaw, LexiconBudgetLaws}
+use Rattle.ale_logic.specs.LexiconLaws.{IsLevelCutOff, IsLexiconCutOff, LexiconBudgetLaws}
 
 -- what is known of anything that finds within a budget
 pub record IsBudgeted (found : ℕ → Found Entry) (CutOff : ℕ → Type 0) : Type 0 where

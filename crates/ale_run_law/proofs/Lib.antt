@@ -3,9 +3,5 @@ pub mod Enough
 pub mod First
 pub mod Kept
 pub mod LexiconBudgets
-pub mod Puts
 pub mod Rises
 pub mod Runs
-pub mod Spells
-pub mod Stays
-pub mod Wholes

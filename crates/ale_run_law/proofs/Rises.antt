@@ -1,16 +1,14 @@
 -- Wherever a part of an answer goes, the whole goes into an extension; and each further extension in which what was
 -- imposed is met, and the nodes that were added since meet their constraints, is sound for the part.
-use Rattle.std.proofs.Common.{◌≡◌, ℕ, zero, suc, ◌+◌, ◌<◌, ◌≤◌, List, [], ◌∷◌, ◌++◌, ◌⊎◌, inl, inr, refl, sym, ap, ◌∙◌, subst, arith, Option, Some, None}
+use Rattle.std.proofs.Common.{◌≡◌, ℕ, ◌<◌, ◌≤◌, List, [], ◌++◌, ◌⊎◌, inl, inr, refl, sym, ap, ◌∙◌, subst, arith, Some}
 use Rattle.std.proofs.lemmas.List.{append-nil}
-use Rattle.ale_declared.specs.Lists.{Has}
-use Rattle.ale_hierarchy.specs.Hierarchy.{Hierarchy, Above, IsLawful}
+use Rattle.ale_hierarchy.specs.Hierarchy.{Above, IsLawful}
 use Rattle.ale_graph.specs.declared.node.Node.{Node}
 use Rattle.ale_graph.specs.Structures.{Structure, IsStructure, count, type_of}
-use Rattle.ale_graph.specs.Morphisms.{IsMorphismAside}
 use Rattle.ale_graph.specs.Extensions.{Extends}
 use Rattle.ale_graph.specs.Closure.{node_of}
-use Rattle.ale_logic.specs.Programs.{Constraint, Program}
-use Rattle.ale_logic.specs.Models.{MeetsConstraint, MeetsAt, constraint_at}
+use Rattle.ale_logic.specs.Programs.{Constraint}
+use Rattle.ale_logic.specs.Models.{MeetsConstraint, constraint_at}
 use Rattle.ale_logic.specs.Words.{Grammar}
 use Rattle.ale_logic.specs.Visits.{Answer}
 use Rattle.ale_logic.specs.Parts.{Part}
@@ -19,7 +17,7 @@ use Rattle.ale_logic.specs.Runs.{MeetsPairs}
 use Rattle.ale_logic.specs.Extending.{AddedMeet, IsSoundFor}
 use Rattle.ale_logic.specs.PartLaws.{IsReattached, IsPart}
 use Rattle.ale_run_law.proofs.First.{stands}
-use Rattle.ale_run_law.proofs.Stays as stays
+use Rattle.ale_extension_law.proofs.Stays as stays
 
 module _ (gr : Grammar) (lawful : IsLawful gr.signature) (root : ℕ) (a : Answer) (p : Part) where
   pub rise_on : IsStructure gr.signature a.closed.graph → IsPart gr.signature gr.program root a p → IsAllImposed gr a → (s : Structure) (to : ℕ → ℕ) (r : IsReattached gr.signature a p s to) (t : Structure) → Extends gr.signature r.larger t →

@@ -1,27 +1,23 @@
 -- Whole searches from single visits: an answer comes from a state that waits, and what satisfies a state that waits
 -- is reached in the end.
-use Rattle.std.proofs.Common.{◌≡◌, ℕ, zero, suc, ◌+◌, ◌-◌, ◌<◌, ◌≤◌, Bool, true, false, List, [], ◌∷◌, ◌++◌, length, drop, append_assoc, ◌⊎◌, inl, inr, refl, sym, ap, ◌∙◌, subst, arith, Option, Some, None}
+use Rattle.std.proofs.Common.{◌≡◌, ℕ, zero, suc, ◌-◌, ◌<◌, ◌≤◌, true, List, [], ◌∷◌, ◌++◌, length, drop, append_assoc, inl, inr, refl, sym, ap, ◌∙◌, subst, arith, Option, Some, None}
 use Rattle.std.proofs.lemmas.List.{append-nil}
 use Rattle.ale_declared.specs.Lists.{Has}
-use Rattle.ale_hierarchy.specs.Hierarchy.{Hierarchy, Above}
-use Rattle.ale_graph.specs.Structures.{Structure, IsStructure, count, type_of}
+use Rattle.ale_graph.specs.Structures.{Structure, IsStructure, count}
 use Rattle.ale_graph.specs.Morphisms.{IsMorphismAside}
-use Rattle.ale_graph.specs.Facts.{Fulfils, Holds}
+use Rattle.ale_graph.specs.Facts.{Fulfils}
 use Rattle.ale_graph.specs.Closure.{node_of}
-use Rattle.ale_graph.specs.Universal.{IsClosure}
 use Rattle.ale_graph.proofs.Lists.{has_left, has_right, has_either}
-use Rattle.ale_engine.specs.Engine.{Visit, answers, goes, last, moved, move, waiting_after, answers_in, is_nothing, search}
-use Rattle.ale_logic.specs.Programs.{Word, Element}
-use Rattle.ale_logic.specs.Fitting.{IsPlainProgram}
-use Rattle.ale_logic.specs.Models.{MeetsAt, MeetsConstraint, IsModel}
+use Rattle.ale_engine.specs.Engine.{Visit, answers, goes, last, moved, waiting_after, answers_in, is_nothing}
+use Rattle.ale_logic.specs.Programs.{Element}
+use Rattle.ale_logic.specs.Models.{MeetsConstraint, IsModel}
 use Rattle.ale_logic.specs.Words.{Grammar}
-use Rattle.ale_logic.specs.States.{Item, Piece, bound, State}
-use Rattle.ale_logic.specs.Spelling.{spell}
+use Rattle.ale_logic.specs.States.{bound, State}
 use Rattle.ale_logic.specs.Visits.{Answer, visit}
-use Rattle.ale_logic.specs.Satisfaction.{Sense, HoldItems, IsBound, IsSaid, Satisfies, Agrees}
-use Rattle.ale_logic.specs.WellFormed.{IsState, AreQuietItems, ArePlainItems, IsSaidOnce}
-use Rattle.ale_logic.specs.Steps.{IsGrammar, IsAccounted, IsAllImposed, SatisfiesBefore, SatisfiesOne, IsKid, IsAnswerOf, IsVisitKid, ModelSatisfies, IsInFragment, StepLaw, StepLaws, LogicLaw, LogicLaws}
-use Rattle.ale_logic.specs.Runs.{AreStates, MeetsPairs, IsReached, FreeSense, Returns, IsAnswer, IsInto, AreInFragment, ComesFrom, SatisfiesFirst, RunLaw, RunLaws}
+use Rattle.ale_logic.specs.Satisfaction.{Sense, HoldItems, Satisfies, Agrees}
+use Rattle.ale_logic.specs.WellFormed.{IsState}
+use Rattle.ale_logic.specs.Steps.{IsGrammar, IsAccounted, SatisfiesBefore, IsKid, IsAnswerOf, IsVisitKid, IsInFragment, StepLaw, StepLaws, LogicLaw, LogicLaws}
+use Rattle.ale_logic.specs.Runs.{AreStates, MeetsPairs, IsReached, FreeSense, Returns, IsAnswer, AreInFragment, ComesFrom, RunLaws}
 
 last_has : {A : Type 0} (n : ℕ) (xs : List A) (x : A) → Has (last n xs) x → Has xs x
 last_has n xs x k = dropped (length xs - n) xs k

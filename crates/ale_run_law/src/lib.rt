@@ -3,4 +3,4 @@
 
 mod laws;
 
-pub use laws::{enough_law, lexicon_budget_law, put_law, spelling_law, stays_law};
+pub use laws::{enough_law, lexicon_budget_law};

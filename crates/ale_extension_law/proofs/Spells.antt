@@ -7,7 +7,7 @@ use Rattle.ale_logic.specs.Programs.{Word}
 use Rattle.ale_logic.specs.States.{Piece, word, phrase, State}
 use Rattle.ale_logic.specs.Spelling.{spell, pieces_of, spelled}
 use Rattle.ale_logic.specs.WellFormed.{Scope, scope_of, FitPieces, IsState, times_sought, times_found, IsSaidOnce}
-use Rattle.ale_logic.specs.Steps.{SpellingLaw, SpellingLaws}
+use Rattle.ale_logic.specs.Steps.{SpellingLaws}
 
 abbrev one_if : Bool → ℕ
 one_if b = if b then 1 else 0

@@ -1,20 +1,20 @@
 -- All of an answer is a part of it.
-use Rattle.std.proofs.Common.{◌≡◌, ℕ, zero, suc, ◌<◌, ◌≤◌, List, [], ◌∷◌, map, length, get_or, ◌⊎◌, inl, inr, refl, sym, ap, ◌∙◌, subst, arith, Option, Some, None}
+use Rattle.std.proofs.Common.{◌≡◌, ℕ, zero, suc, List, [], ◌∷◌, map, length, refl, sym, ap, ◌∙◌, subst, arith, Some, None}
 use Rattle.std.proofs.lemmas.List.{length-map}
 use Rattle.ale_declared.specs.Lists.{Has}
-use Rattle.ale_hierarchy.specs.Hierarchy.{Hierarchy, Above}
-use Rattle.ale_graph.specs.Structures.{Structure, IsStructure, count, type_of}
+use Rattle.ale_hierarchy.specs.Hierarchy.{Hierarchy}
+use Rattle.ale_graph.specs.Structures.{Structure, IsStructure}
 use Rattle.ale_graph.specs.Morphisms.{IsMorphismAside}
 use Rattle.ale_graph.specs.Extensions.{Extends}
 use Rattle.ale_graph.specs.Closure.{node_of}
 use Rattle.ale_graph.proofs.Lists.{has_map}
 use Rattle.std.proofs.lemmas.List.{append-nil}
 use Rattle.ale_logic.specs.Programs.{Element, Program, cat, cats, derived, sem_head, member, tail}
-use Rattle.ale_logic.specs.Words.{Environment, Kept, IsKept, bound_in}
-use Rattle.ale_logic.specs.States.{bound, env_at}
+use Rattle.ale_logic.specs.Words.{Environment, bound_in}
+use Rattle.ale_logic.specs.States.{env_at}
 use Rattle.ale_logic.specs.Visits.{Answer}
-use Rattle.ale_logic.specs.Parts.{Part, renamed, placed, where_rest, kept_answer, whole_of}
-use Rattle.ale_logic.specs.PartLaws.{IsReattached, IsPart, IsKeepable, PartLaw}
+use Rattle.ale_logic.specs.Parts.{renamed, placed, where_rest, kept_answer, whole_of}
+use Rattle.ale_logic.specs.PartLaws.{IsReattached, PartLaw}
 
 -- a variable of an environment whose nodes go elsewhere
 pub placed_bound : (to : ℕ → ℕ) (env : Environment) (v n : ℕ) → bound_in (map (placed to) env) v ≡ Some n → (m : ℕ) × (bound_in env v ≡ Some m) × (to m ≡ n)

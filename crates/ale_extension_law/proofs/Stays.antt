@@ -1,5 +1,5 @@
 -- What holds at the nodes of a structure holds there in each extension of it.
-use Rattle.std.proofs.Common.{◌≡◌, ◌≢◌, ℕ, zero, suc, ◌+◌, ◌<◌, ◌≤◌, List, [], ◌∷◌, ◌++◌, length, length-append, get_or, ◌⊎◌, inl, inr, refl, sym, ap, ◌∙◌, subst, arith, Option, Some, None}
+use Rattle.std.proofs.Common.{◌≡◌, ℕ, zero, suc, ◌<◌, ◌≤◌, List, [], ◌∷◌, ◌++◌, length, length-append, get_or, inl, inr, sym, ap, ◌∙◌, subst, arith, Option, Some, None}
 use Rattle.std.proofs.Math.ListN.{get_or-append}
 use Rattle.ale_hierarchy.specs.Hierarchy.{Hierarchy, Above}
 use Rattle.ale_graph.specs.declared.node.Node.{Node}
@@ -8,13 +8,13 @@ use Rattle.ale_graph.specs.Extensions.{Extends}
 use Rattle.ale_graph.proofs.Structures.{value_from, value_inside}
 use Rattle.ale_logic.specs.Descriptions.{Description, Descriptions, of_type, slot, at, all, any, differs, path_equation, none, more, LeadsTo, HoldsAt, AllHoldAt, SomeHoldsAt, IsAssignment, Describes}
 use Rattle.ale_logic.specs.Goals.{Goal, Goals, yes, cut, each, either, equal, call, unless, if_else, once, no_goal, and_goal}
-use Rattle.ale_logic.specs.Programs.{Word, Constraint, Element, EmptyDeclaration, ListTypes, Program, clauses_of}
-use Rattle.ale_logic.specs.Derivations.{HoldEach, AreCalled, DerivableBy, EachDerivableBy, OneDerivableBy, ByClause, Calls, Derivable}
+use Rattle.ale_logic.specs.Programs.{Word, Constraint, Element, EmptyDeclaration, ListTypes, Program}
+use Rattle.ale_logic.specs.Derivations.{HoldEach, DerivableBy, EachDerivableBy, OneDerivableBy, Calls, Derivable}
 use Rattle.ale_logic.specs.Models.{MeetsConstraint}
-use Rattle.ale_logic.specs.ListNodes.{hd_of, tl_of, IsEmptyListOf, IsNonEmptyListOf, IsEmptyList, IsNonEmptyList, IsCell, IsHd, IsTl}
-use Rattle.ale_logic.specs.Lexical.{IsDeclared, ByLexicalRule, LexicalAt, Lexical, IsEmptyBy, IsEmptyCategory}
+use Rattle.ale_logic.specs.ListNodes.{hd_of, tl_of, IsEmptyListOf, IsNonEmptyListOf, IsCell}
+use Rattle.ale_logic.specs.Lexical.{LexicalAt, IsEmptyBy, IsEmptyCategory}
 use Rattle.ale_logic.specs.Spans.{Spans, by_word, by_empty, by_rule, Covers, no_more, by_cat, by_head, by_cats, by_goal, by_member, by_tail, ListSpans, ends, goes_on}
-use Rattle.ale_logic.specs.Staying.{StaysLaw, StaysLaws}
+use Rattle.ale_logic.specs.Staying.{StaysLaws}
 
 module _ (h : Hierarchy) (program : Program) (s t : Structure) (ext : Extends h s t) where
   pub larger : count s ≤ count t

@@ -1,0 +1,4 @@
+pub mod Puts
+pub mod Spells
+pub mod Stays
+pub mod Wholes
