@@ -16,28 +16,28 @@ use Rattle.ale_logic.specs.Lexical.{LexicalAt, IsEmptyBy, IsEmptyCategory}
 use Rattle.ale_logic.specs.Spans.{Spans, by_word, by_empty, by_rule, Covers, no_more, by_cat, by_head, by_cats, by_goal, by_member, by_tail, ListSpans, ends, goes_on}
 use Rattle.ale_logic.specs.Staying.{StaysLaws}
 
-module _ (h : Hierarchy) (program : Program) (s t : Structure) (ext : Extends h s t) where
+module _ (h : Hierarchy) (s t : Structure) (ext : Extends h s t) where
   pub larger : count s ≤ count t
   larger =
       let e : count t ≡ length (s.nodes ++ ext.nodes.0) = ap length ext.nodes.1 in
       let l = length-append s.nodes ext.nodes.0 in
       omega arith
 
-  within : (n : ℕ) → n < count s → n < count t
+  pub within : (n : ℕ) → n < count s → n < count t
   within n low = let l = larger in omega arith
 
-  node_stays : (n : ℕ) → n < count s → node_at t n ≡ node_at s n
+  pub node_stays : (n : ℕ) → n < count s → node_at t n ≡ node_at s n
   node_stays n low =
       ap (λ xs. get_or xs n (record { of = 0; values = [] })) ext.nodes.1
       ∙ get_or-append s.nodes ext.nodes.0 (record { of = 0; values = [] }) n low
 
-  type_stays : (n : ℕ) → n < count s → type_of t n ≡ type_of s n
+  pub type_stays : (n : ℕ) → n < count s → type_of t n ≡ type_of s n
   type_stays n low = ap (λ (x : Node). x.of) (node_stays n low)
 
-  value_stays : (n f m : ℕ) → value_of s n f ≡ Some m → value_of t n f ≡ Some m
+  pub value_stays : (n f m : ℕ) → value_of s n f ≡ Some m → value_of t n f ≡ Some m
   value_stays n f m e = ap (λ (x : Node). value_in x.values f) (node_stays n (value_from s n f m e)) ∙ e
 
-  inside : (n f m : ℕ) → value_of s n f ≡ Some m → m < count s
+  pub inside : (n f m : ℕ) → value_of s n f ≡ Some m → m < count s
   inside n f m e = value_inside s ext.smaller.formed n f m e
 
   above_stays : (u n : ℕ) → n < count s → Above h u (type_of s n) → Above h u (type_of t n)
@@ -100,130 +100,131 @@ module _ (h : Hierarchy) (program : Program) (s t : Structure) (ext : Extends h 
     one_derived before now on assign (and_goal g gs) (inl k) = inl (derived before now on assign g k)
     one_derived before now on assign (and_goal g gs) (inr k) = inr (one_derived before now on assign gs k)
 
-  calls : (depth p : ℕ) (ns : List ℕ) → Calls h program s depth p ns → Calls h program t depth p ns
-  calls zero p ns k = absurd k
-  calls (suc depth) p ns k = record {
-    clause = k.clause;
-    has = k.has;
-    assign = k.assign;
-    nodes = assigns k.assign k.nodes;
-    args = each_holds k.assign k.clause.args ns k.args;
-    body = derived (Calls h program s depth) (Calls h program t depth) (calls depth) k.assign k.clause.body k.body;
-  }
+  module _ (program : Program) where
+    calls : (depth p : ℕ) (ns : List ℕ) → Calls h program s depth p ns → Calls h program t depth p ns
+    calls zero p ns k = absurd k
+    calls (suc depth) p ns k = record {
+      clause = k.clause;
+      has = k.has;
+      assign = k.assign;
+      nodes = assigns k.assign k.nodes;
+      args = each_holds k.assign k.clause.args ns k.args;
+      body = derived (Calls h program s depth) (Calls h program t depth) (calls depth) k.assign k.clause.body k.body;
+    }
 
-  derivable : (assign : ℕ → ℕ) (g : Goal) → Derivable h program s assign g → Derivable h program t assign g
-  derivable assign g (depth, k) = (depth, derived (Calls h program s depth) (Calls h program t depth) (calls depth) assign g k)
+    derivable : (assign : ℕ → ℕ) (g : Goal) → Derivable h program s assign g → Derivable h program t assign g
+    derivable assign g (depth, k) = (depth, derived (Calls h program s depth) (Calls h program t depth) (calls depth) assign g k)
 
-  meets : (c : Constraint) (n : ℕ) → n < count s → MeetsConstraint h program s c n → MeetsConstraint h program t c n
-  meets c n low k = record {
-    assign = k.assign;
-    nodes = assigns k.assign k.nodes;
-    holds = holds k.assign c.desc n low k.holds;
-    derived = derivable k.assign _ k.derived;
-  }
+    meets : (c : Constraint) (n : ℕ) → n < count s → MeetsConstraint h program s c n → MeetsConstraint h program t c n
+    meets c n low k = record {
+      assign = k.assign;
+      nodes = assigns k.assign k.nodes;
+      holds = holds k.assign c.desc n low k.holds;
+      derived = derivable k.assign _ k.derived;
+    }
 
-  empty_list_of : (o : Option ListTypes) (n : ℕ) → n < count s → IsEmptyListOf h o s n → IsEmptyListOf h o t n
-  empty_list_of None n low k = absurd k
-  empty_list_of (Some l) n low k = above_stays l.e_list n low k
+    empty_list_of : (o : Option ListTypes) (n : ℕ) → n < count s → IsEmptyListOf h o s n → IsEmptyListOf h o t n
+    empty_list_of None n low k = absurd k
+    empty_list_of (Some l) n low k = above_stays l.e_list n low k
 
-  list_of : (o : Option ListTypes) (n : ℕ) → n < count s → IsNonEmptyListOf h o s n → IsNonEmptyListOf h o t n
-  list_of None n low k = absurd k
-  list_of (Some l) n low k = above_stays l.ne_list n low k
+    list_of : (o : Option ListTypes) (n : ℕ) → n < count s → IsNonEmptyListOf h o s n → IsNonEmptyListOf h o t n
+    list_of None n low k = absurd k
+    list_of (Some l) n low k = above_stays l.ne_list n low k
 
-  hd_stays : (o : Option ListTypes) (n m : ℕ) → hd_of o s n ≡ Some m → hd_of o t n ≡ Some m
-  hd_stays None n m e = e
-  hd_stays (Some l) n m e = value_stays n l.hd m e
+    hd_stays : (o : Option ListTypes) (n m : ℕ) → hd_of o s n ≡ Some m → hd_of o t n ≡ Some m
+    hd_stays None n m e = e
+    hd_stays (Some l) n m e = value_stays n l.hd m e
 
-  tl_stays : (o : Option ListTypes) (n m : ℕ) → tl_of o s n ≡ Some m → tl_of o t n ≡ Some m
-  tl_stays None n m e = e
-  tl_stays (Some l) n m e = value_stays n l.tl m e
+    tl_stays : (o : Option ListTypes) (n m : ℕ) → tl_of o s n ≡ Some m → tl_of o t n ≡ Some m
+    tl_stays None n m e = e
+    tl_stays (Some l) n m e = value_stays n l.tl m e
 
-  cell : (n hd tl : ℕ) → n < count s → IsCell h program s n hd tl → IsCell h program t n hd tl
-  cell n hd tl low k = record {
-    is_list = list_of program.lists n low k.is_list;
-    hd_is = hd_stays program.lists n hd k.hd_is;
-    tl_is = tl_stays program.lists n tl k.tl_is;
-  }
+    cell : (n hd tl : ℕ) → n < count s → IsCell h program s n hd tl → IsCell h program t n hd tl
+    cell n hd tl low k = record {
+      is_list = list_of program.lists n low k.is_list;
+      hd_is = hd_stays program.lists n hd k.hd_is;
+      tl_is = tl_stays program.lists n tl k.tl_is;
+    }
 
-  describes : (d : Description) (n : ℕ) → n < count s → Describes h s d n → Describes h t d n
-  describes d n low k = record { assign = k.assign; nodes = assigns k.assign k.nodes; holds = holds k.assign d n low k.holds }
+    describes : (d : Description) (n : ℕ) → n < count s → Describes h s d n → Describes h t d n
+    describes d n low k = record { assign = k.assign; nodes = assigns k.assign k.nodes; holds = holds k.assign d n low k.holds }
 
-  lexical_inside : (depth : ℕ) (w : Word) (n : ℕ) → LexicalAt h program s depth w n → n < count s
-  lexical_inside zero w n k = k.inside
-  lexical_inside (suc depth) w n k = k.inside
+    lexical_inside : (depth : ℕ) (w : Word) (n : ℕ) → LexicalAt h program s depth w n → n < count s
+    lexical_inside zero w n k = k.inside
+    lexical_inside (suc depth) w n k = k.inside
 
-  lexical : (depth : ℕ) (w : Word) (n : ℕ) → LexicalAt h program s depth w n → LexicalAt h program t depth w n
-  lexical zero w n k = record {
-    declaration = k.declaration;
-    has = k.has;
-    word = k.word;
-    inside = within n k.inside;
-    describes = describes k.declaration.desc n k.inside k.describes;
-  }
-  lexical (suc depth) w n k = record {
-    rule = k.rule;
-    has = k.has;
-    word = k.word;
-    becomes = k.becomes;
-    inside = within n k.inside;
-    node = k.node;
-    lexical = lexical depth k.word k.node k.lexical;
-    assign = k.assign;
-    nodes = assigns k.assign k.nodes;
-    input = holds k.assign k.rule.input k.node (lexical_inside depth k.word k.node k.lexical) k.input;
-    output = holds k.assign k.rule.output n k.inside k.output;
-    derived = derivable k.assign _ k.derived;
-  }
+    lexical : (depth : ℕ) (w : Word) (n : ℕ) → LexicalAt h program s depth w n → LexicalAt h program t depth w n
+    lexical zero w n k = record {
+      declaration = k.declaration;
+      has = k.has;
+      word = k.word;
+      inside = within n k.inside;
+      describes = describes k.declaration.desc n k.inside k.describes;
+    }
+    lexical (suc depth) w n k = record {
+      rule = k.rule;
+      has = k.has;
+      word = k.word;
+      becomes = k.becomes;
+      inside = within n k.inside;
+      node = k.node;
+      lexical = lexical depth k.word k.node k.lexical;
+      assign = k.assign;
+      nodes = assigns k.assign k.nodes;
+      input = holds k.assign k.rule.input k.node (lexical_inside depth k.word k.node k.lexical) k.input;
+      output = holds k.assign k.rule.output n k.inside k.output;
+      derived = derivable k.assign _ k.derived;
+    }
 
-  empty : (e : EmptyDeclaration) (n : ℕ) → IsEmptyBy h e s n → IsEmptyBy h e t n
-  empty e n k = (within n k.0, describes e.desc n k.0 k.1)
+    empty : (e : EmptyDeclaration) (n : ℕ) → IsEmptyBy h e s n → IsEmptyBy h e t n
+    empty e n k = (within n k.0, describes e.desc n k.0 k.1)
 
-  empty_category : (n : ℕ) → IsEmptyCategory h program s n → IsEmptyCategory h program t n
-  empty_category n (e, has, k) = (e, has, empty e n k)
+    empty_category : (n : ℕ) → IsEmptyCategory h program s n → IsEmptyCategory h program t n
+    empty_category n (e, has, k) = (e, has, empty e n k)
 
-  spans_inside : (words : List Word) (n i k : ℕ) → Spans h program s words n i k → n < count s
-  spans_inside words n i k (by_word _ _ w e (depth, few, l)) = lexical_inside depth w n l
-  spans_inside words n i k (by_empty _ _ (e, has, l)) = l.0
-  spans_inside words n i k (by_rule _ _ _ r assign has nodes low mother covers) = low
+    spans_inside : (words : List Word) (n i k : ℕ) → Spans h program s words n i k → n < count s
+    spans_inside words n i k (by_word _ _ w e (depth, few, l)) = lexical_inside depth w n l
+    spans_inside words n i k (by_empty _ _ (e, has, l)) = l.0
+    spans_inside words n i k (by_rule _ _ _ r assign has nodes low mother covers) = low
 
-  list_inside : (words : List Word) (n i k : ℕ) → ListSpans h program s words n i k → n < count s
-  list_inside words n i k (ends _ _ low e) = low
-  list_inside words n i k (goes_on _ hd tl _ j _ low c a b) = low
+    list_inside : (words : List Word) (n i k : ℕ) → ListSpans h program s words n i k → n < count s
+    list_inside words n i k (ends _ _ low e) = low
+    list_inside words n i k (goes_on _ hd tl _ j _ low c a b) = low
 
-  mutual
-    spans : (words : List Word) (n i k : ℕ) → Spans h program s words n i k → Spans h program t words n i k
-    spans words n i k (by_word _ _ w e (depth, few, l)) = by_word n i w e (depth, few, lexical depth w n l)
-    spans words n i k (by_empty _ _ (e, has, l)) = by_empty n i (e, has, empty e n l)
-    spans words n i k (by_rule _ _ _ r assign has nodes low mother c) = by_rule n i k r assign has (assigns assign nodes) (within n low) (holds assign r.mother n low mother) (covers words assign r.elements i k c)
+    mutual
+      spans : (words : List Word) (n i k : ℕ) → Spans h program s words n i k → Spans h program t words n i k
+      spans words n i k (by_word _ _ w e (depth, few, l)) = by_word n i w e (depth, few, lexical depth w n l)
+      spans words n i k (by_empty _ _ (e, has, l)) = by_empty n i (e, has, empty e n l)
+      spans words n i k (by_rule _ _ _ r assign has nodes low mother c) = by_rule n i k r assign has (assigns assign nodes) (within n low) (holds assign r.mother n low mother) (covers words assign r.elements i k c)
 
-    covers : (words : List Word) (assign : ℕ → ℕ) (es : List Element) (i k : ℕ) → Covers h program s words assign es i k → Covers h program t words assign es i k
-    covers words assign es i k (no_more _ _) = no_more assign i
-    covers words assign _ i k (by_cat _ d es m _ j _ here c rest) = by_cat assign d es m i j k (holds assign d m (spans_inside words m i j c) here) (spans words m i j c) (covers words assign es j k rest)
-    covers words assign _ i k (by_head _ d es m _ j _ here c rest) = by_head assign d es m i j k (holds assign d m (spans_inside words m i j c) here) (spans words m i j c) (covers words assign es j k rest)
-    covers words assign _ i k (by_cats _ d es m _ j _ here c rest) = by_cats assign d es m i j k (holds assign d m (list_inside words m i j c) here) (list_spans words m i j c) (covers words assign es j k rest)
-    covers words assign _ i k (by_goal _ g es _ _ d rest) = by_goal assign g es i k (derivable assign g d) (covers words assign es i k rest)
-    covers words assign _ i k (by_member _ es m hd _ j _ e c rest) = by_member assign es m hd i j k (hd_stays program.lists m hd e) (spans words hd i j c) (covers words assign es j k rest)
-    covers words assign _ i k (by_tail _ es m tl _ j _ e c rest) = by_tail assign es m tl i j k (tl_stays program.lists m tl e) (list_spans words tl i j c) (covers words assign es j k rest)
+      covers : (words : List Word) (assign : ℕ → ℕ) (es : List Element) (i k : ℕ) → Covers h program s words assign es i k → Covers h program t words assign es i k
+      covers words assign es i k (no_more _ _) = no_more assign i
+      covers words assign _ i k (by_cat _ d es m _ j _ here c rest) = by_cat assign d es m i j k (holds assign d m (spans_inside words m i j c) here) (spans words m i j c) (covers words assign es j k rest)
+      covers words assign _ i k (by_head _ d es m _ j _ here c rest) = by_head assign d es m i j k (holds assign d m (spans_inside words m i j c) here) (spans words m i j c) (covers words assign es j k rest)
+      covers words assign _ i k (by_cats _ d es m _ j _ here c rest) = by_cats assign d es m i j k (holds assign d m (list_inside words m i j c) here) (list_spans words m i j c) (covers words assign es j k rest)
+      covers words assign _ i k (by_goal _ g es _ _ d rest) = by_goal assign g es i k (derivable assign g d) (covers words assign es i k rest)
+      covers words assign _ i k (by_member _ es m hd _ j _ e c rest) = by_member assign es m hd i j k (hd_stays program.lists m hd e) (spans words hd i j c) (covers words assign es j k rest)
+      covers words assign _ i k (by_tail _ es m tl _ j _ e c rest) = by_tail assign es m tl i j k (tl_stays program.lists m tl e) (list_spans words tl i j c) (covers words assign es j k rest)
 
-    list_spans : (words : List Word) (n i k : ℕ) → ListSpans h program s words n i k → ListSpans h program t words n i k
-    list_spans words n i k (ends _ _ low e) = ends n i (within n low) (empty_list_of program.lists n low e)
-    list_spans words n i k (goes_on _ hd tl _ j _ low c a b) = goes_on n hd tl i j k (within n low) (cell n hd tl low c) (spans words hd i j a) (list_spans words tl j k b)
+      list_spans : (words : List Word) (n i k : ℕ) → ListSpans h program s words n i k → ListSpans h program t words n i k
+      list_spans words n i k (ends _ _ low e) = ends n i (within n low) (empty_list_of program.lists n low e)
+      list_spans words n i k (goes_on _ hd tl _ j _ low c a b) = goes_on n hd tl i j k (within n low) (cell n hd tl low c) (spans words hd i j a) (list_spans words tl j k b)
 
 pub stays_law : StaysLaws
 stays_law h program s t ext = record {
-  larger = larger h program s t ext;
-  types = type_stays h program s t ext;
-  values = value_stays h program s t ext;
-  assigns = assigns h program s t ext;
-  holds = holds h program s t ext;
-  calls = calls h program s t ext;
-  derivable = derivable h program s t ext;
-  meets = meets h program s t ext;
-  empty_list = empty_list_of h program s t ext program.lists;
-  non_empty_list = list_of h program s t ext program.lists;
-  hds = hd_stays h program s t ext program.lists;
-  tls = tl_stays h program s t ext program.lists;
-  lexical = lexical h program s t ext;
-  empty = empty_category h program s t ext;
-  spans = spans h program s t ext;
+  larger = larger h s t ext;
+  types = type_stays h s t ext;
+  values = value_stays h s t ext;
+  assigns = assigns h s t ext;
+  holds = holds h s t ext;
+  calls = calls h s t ext program;
+  derivable = derivable h s t ext program;
+  meets = meets h s t ext program;
+  empty_list = empty_list_of h s t ext program program.lists;
+  non_empty_list = list_of h s t ext program program.lists;
+  hds = hd_stays h s t ext program program.lists;
+  tls = tl_stays h s t ext program program.lists;
+  lexical = lexical h s t ext program;
+  empty = empty_category h s t ext program;
+  spans = spans h s t ext program;
 }

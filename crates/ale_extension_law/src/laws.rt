@@ -1,10 +1,13 @@
 ghost use Rattle.ale_hierarchy.specs.Hierarchy.{Hierarchy};
+ghost use Rattle.ale_logic.specs.Growing.{VisibleStays};
 ghost use Rattle.ale_logic.specs.Parts.{whole_of};
 ghost use Rattle.ale_logic.specs.PartLaws.{PartLaw};
 ghost use Rattle.ale_logic.specs.Programs.{Program};
 ghost use Rattle.ale_logic.specs.PutLaws.{PutLaws};
 ghost use Rattle.ale_logic.specs.Staying.{StaysLaws};
 ghost use Rattle.ale_logic.specs.Steps.{SpellingLaws};
+
+use ale_morphism::visible_laws;
 
 /// What holds at the nodes of a structure holds there in each extension of it: types, values, descriptions,
 /// goals, constraints, lexical words, empty categories, lists and spans.
@@ -26,3 +29,10 @@ pub fn spelling_law()
 pub fn whole_law()
     ensures { (h : Hierarchy) (program : Program) → PartLaw h program whole_of }
 {}
+
+/// An extension adds nothing visible, whatever nodes the roots are.
+pub fn visible_stays_law()
+    ensures { VisibleStays }
+{
+    visible_laws();
+}

@@ -4,4 +4,4 @@
 
 mod laws;
 
-pub use laws::{put_law, spelling_law, stays_law, whole_law};
+pub use laws::{put_law, spelling_law, stays_law, visible_stays_law, whole_law};
