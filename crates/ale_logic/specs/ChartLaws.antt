@@ -60,7 +60,7 @@ pub record IsSoundPassive (h : Hierarchy) (program : Program) (sentence : List W
 pub record IsSoundItem (h : Hierarchy) (program : Program) (sentence : List Word) (x : ChartItem) : Type 0 where
   pub is : IsKept h x.kept x.root
   pub rest_below : AreElementsBelow (count x.kept.graph) x.rest
-  pub place : x.to ≤ length sentence
+  pub places : (x.from ≤ x.to) × (x.to ≤ length sentence)
   pub passive : x.rest ≡ [] → IsSoundPassive h program sentence x
 
 -- every span of a model over places of the sentence is covered

@@ -8,14 +8,13 @@ use Rattle.ale_graph.specs.Morphisms.{IsMorphismAside}
 use Rattle.ale_graph.specs.Closure.{node_of}
 use Rattle.ale_graph.specs.Universal.{IsClosure}
 use Rattle.ale_logic.specs.Programs.{Word, Element}
-use Rattle.ale_logic.specs.Fitting.{IsPlainProgram}
 use Rattle.ale_logic.specs.Models.{MeetsAt, IsModel}
 use Rattle.ale_logic.specs.Words.{Grammar}
 use Rattle.ale_logic.specs.States.{Piece, env_at, bound, State}
 use Rattle.ale_logic.specs.Spelling.{spell}
 use Rattle.ale_logic.specs.Satisfaction.{Sense, Satisfies, Agrees}
-use Rattle.ale_logic.specs.WellFormed.{IsState, AreQuietItems, ArePlainItems, IsSaidOnce}
-use Rattle.ale_logic.specs.Steps.{IsAccounted, IsGrammar, IsAllImposed, IsSatisfiable}
+use Rattle.ale_logic.specs.WellFormed.{IsState, AreQuietItems, IsSaidOnce}
+use Rattle.ale_logic.specs.Steps.{IsAccounted, IsGrammar, IsAllImposed, ModelSatisfies, IsInFragment}
 use Rattle.ale_engine.specs.Engine.{search}
 use Rattle.ale_logic.specs.Visits.{Answer, visit}
 
@@ -84,21 +83,19 @@ pub record IsInto (gr : Grammar) (a : Answer) (s : Structure) (map : ℕ → ℕ
   pub structure : IsStructure gr.signature s
   pub is : IsMorphismAside gr.signature a.closed.graph s map
 
--- the program and the states are inside the fragment
-pub record AreInFragment (gr : Grammar) (sts : List State) : Type 0 where
-  pub program : IsPlainProgram gr.program
-  pub states : (st : State) → Has sts st → ArePlainItems st.agenda
+abbrev pub AreInFragment : Grammar → List State → Type 0
+AreInFragment gr sts = (st : State) → Has sts st → IsInFragment gr st
 
 pub record ComesFrom (gr : Grammar) (sts : List State) (a : Answer) : Type 0 where
   pub state : State
   pub has : Has sts state
   pub is : IsAnswer gr state a
-  pub back : AreInFragment gr sts → (s : Structure) (map : ℕ → ℕ) → IsInto gr a s map → (free : FreeSense s a) → Returns gr s state a map free
+  pub back : IsInFragment gr state → (s : Structure) (map : ℕ → ℕ) → IsInto gr a s map → (free : FreeSense s a) → Returns gr s state a map free
 
 -- a model satisfies one of the first states
 pub record SatisfiesFirst (gr : Grammar) (first : List State) (s : Structure) (st : State) (x : Sense) (remain : List Element) : Type 0 where
   pub has : Has first st
-  pub is : IsSatisfiable gr s x st remain
+  pub is : ModelSatisfies gr s x st remain
 
 pub record RunLaw (gr : Grammar) (first : List State) (budget : ℕ) : Type 0 where
   pub comes : (a : Answer) → Has (search (visit gr) budget first).answers a → ComesFrom gr first a

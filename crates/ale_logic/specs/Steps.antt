@@ -87,7 +87,7 @@ pub record IsVisitKid (gr : Grammar) (waiting : ℕ) (st kid : State) : Type 0 w
   pub has : Has kids kid
 
 -- a model of the program satisfies the state
-pub record IsSatisfiable (gr : Grammar) (s : Structure) (x : Sense) (st : State) (remain : List Element) : Type 0 where
+pub record ModelSatisfies (gr : Grammar) (s : Structure) (x : Sense) (st : State) (remain : List Element) : Type 0 where
   pub model : IsModel gr.signature gr.program s
   pub satisfies : Satisfies gr s x st remain
 
@@ -97,7 +97,12 @@ pub record StepLaw (gr : Grammar) (waiting : ℕ) (st : State) : Type 0 where
   pub kids_are_states : (kid : State) → IsVisitKid gr waiting st kid → IsKid gr st kid
   pub answer : (a : Answer) → answers a ≡ visit gr waiting st → IsAnswerOf gr st a
   pub up : (stay : ℕ) (ks : List State) → goes stay ks ≡ visit gr waiting st → (s : Structure) (x : Sense) (remain : List Element) →
-      IsSatisfiable gr s x st remain → SatisfiesOne gr s st x remain ks
+      ModelSatisfies gr s x st remain → SatisfiesOne gr s st x remain ks
+
+-- inside the fragment: without cut, negation or if-then
+pub record IsInFragment (gr : Grammar) (st : State) : Type 0 where
+  pub program : IsPlainProgram gr.program
+  pub items : ArePlainItems st.agenda
 
 -- Inside the fragment: kids are inside too, what satisfies a kid satisfies the state, and all waiting states stay.
 pub record LogicLaw (gr : Grammar) (waiting : ℕ) (st : State) : Type 0 where
@@ -110,7 +115,7 @@ abbrev pub StepLaws : Type 0
 StepLaws = (gr : Grammar) (waiting : ℕ) (st : State) → IsGrammar gr → IsState gr.signature st → StepLaw gr waiting st
 
 abbrev pub LogicLaws : Type 0
-LogicLaws = (gr : Grammar) (waiting : ℕ) (st : State) → IsGrammar gr → IsPlainProgram gr.program → IsState gr.signature st → ArePlainItems st.agenda → LogicLaw gr waiting st
+LogicLaws = (gr : Grammar) (waiting : ℕ) (st : State) → IsGrammar gr → IsState gr.signature st → IsInFragment gr st → LogicLaw gr waiting st
 
 -- Where words are found once for each phrase, it has the words of its pieces; and in the end no words but these fit.
 pub record SpellingLaw (h : Hierarchy) (st : State) : Type 0 where

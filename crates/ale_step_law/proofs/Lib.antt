@@ -13,7 +13,6 @@ pub mod On
 pub mod OneVisit
 pub mod Owing
 pub mod PutFits
-pub mod Puts
 pub mod Senses
 pub mod Tables
 pub mod Up

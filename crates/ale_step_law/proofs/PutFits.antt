@@ -19,7 +19,7 @@ use Rattle.ale_logic.specs.States.{State, grown}
 use Rattle.ale_logic.specs.Putting.{value_facts, node_facts, pair_facts, graph_facts, moved, putting}
 use Rattle.ale_logic.specs.Satisfaction.{Sense, Satisfies}
 use Rattle.ale_logic.specs.WellFormed.{scope_of, IsState}
-use Rattle.ale_step_law.proofs.Puts.{past, value_there, put_law}
+use Rattle.ale_extension_law.proofs.Puts.{past, value_there, put_law}
 use Rattle.ale_step_law.proofs.Wider.{Wider, wider_on, fact_wider}
 use Rattle.ale_step_law.proofs.Growing.{Goes, Widened, widened}
 use Rattle.ale_step_law.proofs.Senses.{shift, shift_new, with_nodes}

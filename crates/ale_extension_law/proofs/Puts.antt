@@ -1,9 +1,8 @@
 -- The facts of a structure that is put among others, and the morphism by which it goes.
-use Rattle.std.proofs.Common.{◌≡◌, ◌≢◌, ℕ, zero, suc, ◌+◌, ◌<◌, ◌≤◌, Bool, true, false, ◌&&◌, eqb, ltb, IsTrue, List, [], ◌∷◌, ◌++◌, length, get_or, ◌⊎◌, inl, inr, refl, sym, ap, ◌∙◌, subst, arith, Option, Some, None, if◌then◌else◌}
+use Rattle.std.proofs.Common.{◌≡◌, ◌≢◌, ℕ, zero, suc, ◌+◌, ◌<◌, Bool, true, false, eqb, ltb, IsTrue, List, [], ◌∷◌, length, get_or, ◌⊎◌, inl, inr, refl, sym, ap, ◌∙◌, subst, arith, Some, if◌then◌else◌}
 use Rattle.std.proofs.lemmas.Bool.{and_parts, eqb-true, eq-eqb, ltb-true}
 use Rattle.ale_declared.specs.Lists.{Has, every}
 use Rattle.ale_hierarchy.specs.Hierarchy.{Hierarchy, Above}
-use Rattle.ale_graph.specs.declared.fact.Fact.{Fact}
 use Rattle.ale_graph.specs.declared.fact.Fact.TheVariants.{OfType, Value, Differ}
 use Rattle.ale_graph.specs.declared.node.Node.{Node}
 use Rattle.ale_graph.specs.Structures.{Structure, count, type_of, value_in, value_of, is_rising, is_node, is_formed}
@@ -12,7 +11,7 @@ use Rattle.ale_graph.specs.Morphisms.{IsMorphismAside}
 use Rattle.ale_graph.proofs.Lists.{some_one, none_some, has_left, has_right, has_either, every_has}
 use Rattle.ale_graph.proofs.Structures.{get_has}
 use Rattle.ale_logic.specs.Putting.{value_facts, node_facts, pair_facts, graph_facts}
-use Rattle.ale_logic.specs.PutLaws.{PutLaw, PutLaws}
+use Rattle.ale_logic.specs.PutLaws.{PutLaws}
 
 abbrev pub past : Node
 past = record { of = 0; values = [] }
