@@ -43,9 +43,9 @@ known_last h c items below item e fit =
     known h c (item_of item) (agenda_of below) (subst (FitItems h c) (ap agenda_of e ∙ turned_push item_of below item []) fit)
 
 -- nothing is owed where there are no constraints
-none_owed : (h : Hierarchy) (c : Closed) (as : List ℕ) → first_some (λ a. owed_by h c [] a 0 []) as ≡ None
+none_owed : (h : Hierarchy) (c : Closed) (classes : List ℕ) → first_some (λ a. owed_by h c [] a 0 []) classes ≡ None
 none_owed h c [] = refl
-none_owed h c (a ∷ as) = none_owed h c as
+none_owed h c (a ∷ classes) = none_owed h c classes
 
 pub nothing_owed : (h : Hierarchy) (c : Closed) → owed (bare h) c [] ≡ None
 nothing_owed h c = none_owed h c (classes_below (class_of c) c.next)

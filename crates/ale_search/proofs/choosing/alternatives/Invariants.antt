@@ -6,4 +6,4 @@ use Rattle.ale_search.proofs.choosing.alternatives.Given as goal
 
 abbrev pub invariant-loop-number : goal.invariant-loop-number
 invariant-loop-number l =
-    states_of l.kids.items ≡ numbered 0 (those (state_of l.state) l.env l.node (take l.number-index l.others))
+    states_of l.kids.items ≡ numbered 0 (those (state_of l.state) l.env l.node (take l.number l.others))

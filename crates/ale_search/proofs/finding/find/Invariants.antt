@@ -1,7 +1,7 @@
 use Rattle.std.proofs.Common.{[], ◌∷◌, ◌-◌}
 use Rattle.ale_hierarchy.specs.Order.{hierarchy}
 use Rattle.ale_logic.specs.Descriptions.{description}
-use Rattle.ale_logic.specs.States.{start}
+use Rattle.ale_logic.specs.Starts.{start}
 use Rattle.ale_search.specs.Views.{waiting_of}
 use Rattle.ale_search.proofs.Progress.{Searching}
 use Rattle.ale_search.proofs.finding.find.Given as goal
