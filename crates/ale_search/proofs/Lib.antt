@@ -1,4 +1,5 @@
-pub mod Laws
+pub mod Bare
+pub mod Meaning
 pub mod Numbered
 pub mod Progress
 pub mod Turned

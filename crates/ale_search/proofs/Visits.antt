@@ -17,6 +17,8 @@ use Rattle.ale_search.specs.declared.state.Item.TheVariants.{On, Take}
 use Rattle.ale_search.specs.declared.state.Demand.TheVariants.{Holds, EndsWith, Leads}
 use Rattle.ale_search.specs.declared.state.State.{State}
 use Rattle.ale_search.specs.Views.{bare, item_of, demand_of, agenda_of, state_of, states_of, waiting_of, IsKnownDemand, IsKnown}
+use Rattle.ale_logic.specs.Steps.{StepLaws}
+use Rattle.ale_search.proofs.Bare.{bare_grammar}
 use Rattle.ale_search.proofs.Turned.{turned_push}
 
 known_demand : (h : Hierarchy) (c : Scope) (x : plain.Demand) → FitsDemand h c x → IsKnownDemand h c.envs x
@@ -101,5 +103,6 @@ put_one xs x ws =
     ∙ ap (λ z. z ++ waiting_of ws) (sym (map-append state_of xs (x ∷ [])))
 
 -- the states that a visit puts in place of one
-pub visit_states : (h : Hierarchy) → IsLawful h → (st : plain.State) (n : ℕ) (ks : List plain.State) → IsState h st → goes n ks ≡ visit (bare h) n st → (kid : plain.State) → Has ks kid → IsState h kid
-visit_states h law st n ks is e kid has = ?
+pub visit_states : StepLaws → (h : Hierarchy) → IsLawful h → (waiting : ℕ) (st : plain.State) (n : ℕ) (ks : List plain.State) → IsState h st → goes n ks ≡ visit (bare h) waiting st → (kid : plain.State) → Has ks kid → IsState h kid
+visit_states steps h law waiting st n ks is e kid has =
+    ((steps (bare h) waiting st (bare_grammar h law) is).kids_are_states kid (record { stay = n; kids = ks; goes_on = e; has = has })).is

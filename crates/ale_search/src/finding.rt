@@ -6,9 +6,10 @@ ghost use Rattle.ale_search.specs.Outcomes.{found, outcome_of};
 
 use crate::state::{State, start};
 use crate::visiting::{Visited, visit};
-use ale_graph::{Closed, closure_law};
+use ale_graph::Closed;
 use ale_logic::{Answer, Desc};
 use ale_signature::{Row, Signature};
+use ale_step_law::step_law;
 use std::alloc::{AllocError, Global};
 
 /// The answers of a search in order, how many visits it made, and whether no state waits any more.
@@ -57,7 +58,7 @@ pub fn find(
     requires { FitsDescription (hierarchy sig.now) slots (description desc.now) }
     ensures { IfOk result (λ f. outcome_of f ≡ found (hierarchy sig.now) budget slots (description desc.now)) }
 {
-    closure_law();
+    step_law();
     let _ = sig.type_count();
     let mut waiting = Vec::new(alloc);
     waiting.push(start(alloc, desc, slots)?)?;

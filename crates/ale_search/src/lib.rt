@@ -4,8 +4,10 @@
 
 mod choosing;
 mod finding;
+mod laws;
 mod state;
 mod stepping;
 mod visiting;
 
 pub use finding::{Found, find};
+pub use laws::search_law;

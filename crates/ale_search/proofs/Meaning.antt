@@ -10,9 +10,7 @@ use Rattle.ale_engine.specs.Engine.{search}
 use Rattle.ale_engine.proofs.EngineLaw.{engine_law}
 use Rattle.ale_logic.specs.declared.answer.Answer as told
 use Rattle.ale_logic.specs.Descriptions.{Description, HoldsAt, FitsDescription, HasNoChoice, parts}
-use Rattle.ale_logic.specs.Programs.{Clause, Constraint}
-use Rattle.ale_logic.specs.Fitting.{FitsProgram, IsPlainProgram}
-use Rattle.ale_logic.specs.Models.{constraint_at, IsModel}
+use Rattle.ale_logic.specs.Models.{IsModel}
 use Rattle.ale_logic.specs.Satisfaction.{Sense, Satisfies}
 use Rattle.ale_logic.specs.States.{State, env_at}
 use Rattle.ale_logic.specs.Starts.{start}
@@ -25,45 +23,12 @@ use Rattle.ale_run_law.proofs.Answers.{came, returned, found_at}
 use Rattle.ale_search.specs.Outcomes.{seen_answer, found}
 use Rattle.ale_search.specs.Solutions.{IsSolution, IsBound, IsAnswer, AnswersAreSolutions, SubsumesSolution, SolutionsAreAnswered, SubsumedAreSolutions, SearchLaw, SearchLaws}
 use Rattle.ale_search.specs.Views.{bare, empty_program}
-
-no_clause : (p : ℕ) (c : Clause) → Has (get_or {A = List Clause} [] p []) c → ⊥
-no_clause zero c has = absurd has
-no_clause (suc p) c has = absurd has
-
-fits_none : (h : Hierarchy) → FitsProgram h empty_program
-fits_none h = record {
-  clauses = λ p c has. absurd (no_clause p c has);
-  constraints = λ c has. absurd has;
-  rules = λ r has. absurd has;
-  words = λ w has. absurd has;
-  empties = λ e has. absurd has;
-  lex_rules = λ r has. absurd has;
-  lists = λ l e. absurd cc;
-}
-
-plain_none : IsPlainProgram empty_program
-plain_none = record {
-  clauses = λ p c has. absurd (no_clause p c has);
-  constraints = λ c has. absurd has;
-  rules = λ r has. absurd has;
-  lex_rules = λ r has. absurd has;
-}
-
-pub accepted_none : (h : Hierarchy) → IsLawful h → IsAccepted h empty_program
-accepted_none h law = record { lawful = law; fits = fits_none h; plain = plain_none }
-
-no_constraint : (k : ℕ) (c : Constraint) → constraint_at empty_program k ≡ Some c → ⊥
-no_constraint zero c e = absurd cc
-no_constraint (suc k) c e = absurd cc
-
--- each total, extensional structure with a node is a model of the program that says nothing
-pub model_of : (h : Hierarchy) (s : Structure) → IsStructure h s → 0 < count s → IsModel h empty_program s
-model_of h s str low = record { structure = str; some_node = low; meets = λ n k c below at above. absurd (no_constraint k c at) }
+use Rattle.ale_search.proofs.Bare.{accepted_none, model_of}
 
 -- what is told of an answer comes from one
 pub told_by : (xs : List Answer) (c : told.Answer) → Has (map seen_answer xs) c → (a : Answer) × Has xs a × (seen_answer a ≡ c)
 told_by [] c has = absurd has
-told_by (x ∷ xs) c (inl e) = (x, inl refl, e)
+told_by (x ∷ xs) c (inl e) = (x, inl refl, sym e)
 told_by (x ∷ xs) c (inr has) = let (a, there, e) = told_by xs c has in (a, inr there, e)
 
 pub is_told : (xs : List Answer) (a : Answer) → Has xs a → Has (map seen_answer xs) (seen_answer a)
@@ -123,6 +88,7 @@ module _ (runs : RunLaws) (h : Hierarchy) (law : IsLawful h) (slots : ℕ) (d : 
         items = (sol.holds, refl);
       } in
       let r = found_at runs h empty_program (accepted_none h law) (start slots d) (description_starts h slots d fit) (tt, tt) budget fin s sol.model sense sat in
+      let next = (came runs h empty_program (accepted_none h law) (start slots d) (description_starts h slots d fit) (tt, tt) budget r.answer r.has).is.next in
       (seen_answer r.answer, is_told (found_from h empty_program budget (start slots d)).answers r.answer r.has, record {
         subsumes = record { map = r.map; is = r.is; root_to = r.lands 0 (omega arith) ∙ r.agrees.node 0 (omega arith) };
         is_bound = λ v a b. sym (ap (λ (f : ℕ → ℕ). f v) (r.agrees.var 0 (omega arith))) ∙ r.is_bound 0 v a b;
