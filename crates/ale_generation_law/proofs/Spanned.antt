@@ -41,7 +41,7 @@ stand_behind before (w ∷ ws) =
     let words : List Word = before ++ w ∷ ws in
     let first : word_at (before ++ w ∷ ws) (length before) ≡ Some w =
       ap (λ z. get_or z (length before) None) (map-append Some before (w ∷ ws))
-      ∙ ap (λ z. get_or (map Some before ++ Some w ∷ map Some ws) z None) (sym (length-map Some before))
+      ∙ ap (λ z. get_or (map Some before ++ Some w ∷ map Some ws) z None) (sym (length-map before Some))
       ∙ get_or-append_seam (map Some before) (Some w) (map Some ws) None in
     let more : before ++ w ∷ [] ++ ws ≡ before ++ w ∷ ws = append_assoc before (w ∷ []) ws in
     let long : length (before ++ w ∷ []) ≡ suc (length before) = let l = length-append before (w ∷ []) in omega arith in
