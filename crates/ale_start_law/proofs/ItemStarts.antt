@@ -1,10 +1,10 @@
 -- The start of an item's own search, and of one with another item, is a state in which no words are sought.
-use Rattle.std.proofs.Common.{◌≡◌, ℕ, zero, suc, ◌+◌, ◌<◌, ◌≤◌, IsTrue, List, [], ◌∷◌, ◌++◌, length, ◌⊎◌, inl, inr, refl, sym, ap, ◌∙◌, subst, arith, Option, Some, None}
+use Rattle.std.proofs.Common.{◌≡◌, ℕ, zero, suc, ◌+◌, ◌<◌, ◌≤◌, IsTrue, List, [], ◌∷◌, ◌++◌, length, ◌⊎◌, inl, inr, refl, sym, ap, subst, arith, Option, Some, None}
 use Rattle.ale_declared.specs.Lists.{Has}
 use Rattle.ale_hierarchy.specs.Hierarchy.{Hierarchy, IsLawful}
 use Rattle.ale_graph.specs.declared.fact.Fact.{Fact}
 use Rattle.ale_graph.specs.declared.fact.Fact.TheVariants.{Same}
-use Rattle.ale_graph.specs.Structures.{Structure, IsStructure, count, value_of, is_formed}
+use Rattle.ale_graph.specs.Structures.{Structure, count, is_formed}
 use Rattle.ale_graph.specs.Facts.{Fits, FitsFact}
 use Rattle.ale_graph.proofs.Lists.{has_either, has_map, some_one, none_some}
 use Rattle.ale_graph.proofs.Structures.{value_inside}
@@ -95,7 +95,7 @@ module _ (h : Hierarchy) (program : Program) (law : IsLawful h) (program_fits : 
 
   -- what all starts have in common
   starts : (facts : List Fact) (next : ℕ) (imposed : List (ℕ × ℕ)) (agenda : List Item) → count x.kept.graph ≤ next → Fits h facts next → ((n k : ℕ) → Has imposed (n, k) → n < next) → FitItems h (scope facts next) agenda → AreQuietItems agenda →
-    IsQuietStart h (record { facts = facts; next = next; imposed = imposed; envs = x.kept.env ∷ []; phrases = 0; said = []; choices = []; agenda = agenda; rest = es })
+      IsQuietStart h (record { facts = facts; next = next; imposed = imposed; envs = x.kept.env ∷ []; phrases = 0; said = []; choices = []; agenda = agenda; rest = es })
   starts facts next imposed agenda far fits pairs items quiet =
       let some = it.is.root_below in
       record {
@@ -123,7 +123,7 @@ module _ (h : Hierarchy) (program : Program) (law : IsLawful h) (program_fits : 
 
   -- the start of a search of the item's own
   own_one : (next : ℕ) (agenda : List Item) → count x.kept.graph ≤ next → FitItems h (scope (graph_facts 0 x.kept.graph) next) agenda → AreQuietItems agenda →
-    IsQuietStart h (record { facts = graph_facts 0 x.kept.graph; next = next; imposed = moved 0 x.kept.imposed; envs = x.kept.env ∷ []; phrases = 0; said = []; choices = []; agenda = agenda; rest = es })
+      IsQuietStart h (record { facts = graph_facts 0 x.kept.graph; next = next; imposed = moved 0 x.kept.imposed; envs = x.kept.env ∷ []; phrases = 0; said = []; choices = []; agenda = agenda; rest = es })
   own_one next agenda far items quiet = starts (graph_facts 0 x.kept.graph) next (moved 0 x.kept.imposed) agenda far (graph_fits h law x.kept.graph it.is.structure 0 next (omega arith)) (pairs_low next far) items quiet
 
   -- the start of a search with another item
@@ -131,13 +131,13 @@ module _ (h : Hierarchy) (program : Program) (law : IsLawful h) (program_fits : 
   both_fit y other =
       let next : ℕ = (0 + count x.kept.graph) + count y.kept.graph in
       fits_both h (graph_facts 0 x.kept.graph) (graph_facts (0 + count x.kept.graph) y.kept.graph) next (graph_fits h law x.kept.graph it.is.structure 0 next (omega arith))
-        (graph_fits h law y.kept.graph other.is.structure (0 + count x.kept.graph) next (omega arith))
+      (graph_fits h law y.kept.graph other.is.structure (0 + count x.kept.graph) next (omega arith))
 
   beside_one : (y : ChartItem) → IsItem h program y → (facts : List Fact) (agenda : List Item) → Fits h facts ((0 + count x.kept.graph) + count y.kept.graph) → FitItems h (scope facts ((0 + count x.kept.graph) + count y.kept.graph)) agenda → AreQuietItems agenda →
-    IsQuietStart h (record { facts = facts; next = (0 + count x.kept.graph) + count y.kept.graph; imposed = moved 0 x.kept.imposed ++ moved (0 + count x.kept.graph) y.kept.imposed; envs = x.kept.env ∷ []; phrases = 0; said = []; choices = []; agenda = agenda; rest = es })
+      IsQuietStart h (record { facts = facts; next = (0 + count x.kept.graph) + count y.kept.graph; imposed = moved 0 x.kept.imposed ++ moved (0 + count x.kept.graph) y.kept.imposed; envs = x.kept.env ∷ []; phrases = 0; said = []; choices = []; agenda = agenda; rest = es })
   beside_one y other facts agenda fits items quiet =
       starts facts ((0 + count x.kept.graph) + count y.kept.graph) (moved 0 x.kept.imposed ++ moved (0 + count x.kept.graph) y.kept.imposed) agenda (omega arith) fits
-        (λ n k has. go n k (has_either (moved 0 x.kept.imposed) (moved (0 + count x.kept.graph) y.kept.imposed) (n, k) has)) items quiet
+      (λ n k has. go n k (has_either (moved 0 x.kept.imposed) (moved (0 + count x.kept.graph) y.kept.imposed) (n, k) has)) items quiet
     where
       go : (n k : ℕ) → Has (moved 0 x.kept.imposed) (n, k) ⊎ Has (moved (0 + count x.kept.graph) y.kept.imposed) (n, k) → n < (0 + count x.kept.graph) + count y.kept.graph
       go n k (inl p) = pairs_low ((0 + count x.kept.graph) + count y.kept.graph) (omega arith) n k p
@@ -155,14 +155,14 @@ module _ (h : Hierarchy) (program : Program) (law : IsLawful h) (program_fits : 
           let next : ℕ = 0 + count x.kept.graph in
           let facts : List Fact = graph_facts 0 x.kept.graph in
           subst (IsQuietStart h) (sym p) (own_one next (derive 0 0 goal ∷ (end_items (end_of program x es) ++ [])) (omega arith)
-            ((omega arith, fit), items_end facts next (end_of program x es) (end_fits facts next (omega arith) es)) (tt, quiet_end (end_of program x es)))
+          ((omega arith, fit), items_end facts next (end_of program x es) (end_fits facts next (omega arith) es)) (tt, quiet_end (end_of program x es)))
       go (derived goal) fit (inr p) = absurd p
       go (cats d) fit (inl p) =
           let next : ℕ = (0 + count x.kept.graph) + 1 in
           let facts : List Fact = graph_facts 0 x.kept.graph in
           let node : ℕ = 0 + count x.kept.graph in
           subst (IsQuietStart h) (sym p) (own_one next (on node (holds 0 d) ∷ split node (end_of program x es) ∷ []) (omega arith)
-            ((omega arith, (omega arith, fit)), ((omega arith, end_fits facts next (omega arith) es), tt)) (tt, (tt, tt)))
+          ((omega arith, (omega arith, fit)), ((omega arith, end_fits facts next (omega arith) es), tt)) (tt, (tt, tt)))
       go (cats d) fit (inr p) = absurd p
       go (tail n) fit has = of (tl_of program.lists x.kept.graph n) refl has
         where
@@ -192,7 +192,7 @@ module _ (h : Hierarchy) (program : Program) (law : IsLawful h) (program_fits : 
           let next : ℕ = (0 + count x.kept.graph) + count y.kept.graph in
           let low = other.is.root_below in
           subst (IsQuietStart h) (sym p) (beside_one y other both (on root (holds 0 d) ∷ (end_items (end_of program x es) ++ [])) (both_fit y other)
-            ((omega arith, (omega arith, fit)), items_end both next (end_of program x es) (end_fits both next (omega arith) es)) (tt, quiet_end (end_of program x es)))
+          ((omega arith, (omega arith, fit)), items_end both next (end_of program x es) (end_fits both next (omega arith) es)) (tt, quiet_end (end_of program x es)))
 
       go : (d : Element) → FitsRemaining h (length x.kept.env) d → Has (daughter_start program x d es y) st → IsQuietStart h st
       go (cat d) fit (inl p) = cat_is d fit p
@@ -209,7 +209,7 @@ module _ (h : Hierarchy) (program : Program) (law : IsLawful h) (program_fits : 
               let low : m < count x.kept.graph = hd_below x.kept.graph it.is.structure.formed program.lists n m q in
               let root_low = other.is.root_below in
               subst (IsQuietStart h) (sym p) (beside_one y other facts (end_items (end_of program x es) ++ []) (fits_both h both (Same m root ∷ []) next (both_fit y other) (λ f has. same_fits next m f (omega arith) (omega arith) has))
-                (items_end facts next (end_of program x es) (end_fits facts next (omega arith) es)) (quiet_end (end_of program x es)))
+              (items_end facts next (end_of program x es) (end_fits facts next (omega arith) es)) (quiet_end (end_of program x es)))
             where
               same_fits : (next m : ℕ) (f : Fact) → m < next → root < next → Has (Same m root ∷ []) f → FitsFact h next f
               same_fits next m f one two (inl q) = subst (FitsFact h next) (sym q) (one, two)

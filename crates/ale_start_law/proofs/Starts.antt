@@ -1,5 +1,4 @@
 -- Each start is a state.
-use Rattle.std.proofs.Common.{◌≡◌}
 use Rattle.ale_logic.specs.StartLaws.{StartLaws}
 use Rattle.ale_run_law.proofs.First.{description_starts, goal_starts, generation_starts}
 use Rattle.ale_lexicon_law.proofs.RuleStart.{rule_starts}
