@@ -1,0 +1,2 @@
+pub mod ItemStarts
+pub mod Starts
