@@ -1,0 +1,5 @@
+pub mod GraphFacts
+pub mod Items
+pub mod Searches
+pub mod Maps
+pub mod Covering
