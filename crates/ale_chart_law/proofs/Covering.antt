@@ -3,20 +3,21 @@
 use Rattle.std.proofs.Common.{◌≡◌, ℕ, zero, suc, ◌+◌, ◌-◌, ◌<◌, ◌≤◌, true, false, eqb, List, [], ◌∷◌, ◌++◌, map, length, Bool, ◌⊎◌, inl, inr, refl, sym, ap, ◌∙◌, subst, arith, Option, Some, None, if◌then◌else◌}
 use Rattle.std.proofs.lemmas.Bool.{eq-eqb, cases_lt}
 use Rattle.ale_declared.specs.Lists.{Has}
-use Rattle.ale_hierarchy.specs.Hierarchy.{Hierarchy}
+use Rattle.ale_hierarchy.specs.Hierarchy.{Hierarchy, Above}
 use Rattle.ale_graph.specs.declared.fact.Fact.{Fact}
 use Rattle.ale_graph.specs.declared.fact.Fact.TheVariants.{Same}
-use Rattle.ale_graph.specs.Structures.{Structure, IsStructure, count, value_of}
+use Rattle.ale_graph.specs.Structures.{Structure, IsStructure, count, type_of, value_of}
 use Rattle.ale_graph.specs.Facts.{Holds, HoldsFact}
 use Rattle.ale_graph.specs.Morphisms.{IsMorphismAside}
 use Rattle.ale_graph.proofs.Lists.{has_left, none_some, some_one}
 use Rattle.ale_logic.specs.Descriptions.{Description, HoldsAt, IsAssignment}
 use Rattle.ale_logic.specs.Goals.{Goal}
 use Rattle.ale_logic.specs.Programs.{Word, Element, cat, cats, derived, sem_head, member, tail, Rule, ListTypes, Program}
+use Rattle.ale_logic.specs.Fitting.{FitsElement, FitsRule}
 use Rattle.ale_logic.specs.Derivations.{Derivable}
 use Rattle.ale_logic.specs.Models.{IsModel}
 use Rattle.ale_logic.specs.ListNodes.{hd_of, tl_of, IsEmptyList, IsNonEmptyList, IsCell, IsHd, IsTl}
-use Rattle.ale_logic.specs.Words.{Environment, bound_in, Entry, Words, HasEntry, HasEmpty}
+use Rattle.ale_logic.specs.Words.{Environment, bound_in, Entry, Words, StandsAt}
 use Rattle.ale_logic.specs.Spans.{Spans, Covers, ListSpans, word_at}
 use Rattle.ale_logic.specs.Spans.Spans.{by_word, by_empty, by_rule}
 use Rattle.ale_logic.specs.Spans.Covers.{no_more, by_cat, by_head, by_cats, by_goal, by_member, by_tail}
@@ -36,7 +37,7 @@ use Rattle.ale_logic.specs.Starts.{ChartItem, mother_at, at_node, end_of, end_it
 use Rattle.ale_logic.specs.Charts.{passive_of, one_node, ItemTask, item_of, item_task, own_tasks, daughter_tasks}
 use Rattle.ale_logic.specs.LexiconLaws.{AreAllWords}
 use Rattle.ale_logic.specs.ChartLaws.{IsCovered, Replaces, CoversAll}
-use Rattle.ale_chart_law.proofs.Items.{IsItem, IsActive, IsStart, rest_below, hd_below, tl_below, own_is, daughter_is, first_left}
+use Rattle.ale_chart_law.proofs.Items.{none_bound, IsItem, IsActive, IsStart, rest_below, hd_below, tl_below, own_is, daughter_is, first_left}
 use Rattle.ale_chart_law.proofs.Maps.{beside, beside_low, beside_high, beside_from, beside_at, holds_both, put_first, put_from}
 use Rattle.ale_chart_law.proofs.Searches.{renamed_same, gr, Arrival, arrival}
 
@@ -520,3 +521,97 @@ module _ (h : Hierarchy) (program : Program) (ok : IsAccepted h program) (runs :
   -- the places of what is covered are ones of the sentence
   covered_place : (n i k : ℕ) → Covered n i k → k ≤ length sentence
   covered_place n i k r = subst (λ z. z ≤ length sentence) r.to (closed.place r.item r.has)
+
+  -- the item with which a rule begins goes where its mother holds
+  one_goes : (slots n : ℕ) → n < count s → IsMorphismAside h (one_node slots).graph s (λ k. n)
+  one_goes slots n low = record { into = λ k less. low; types = λ k less. types k; values = λ k f m e. values k f m e; differs = λ a b has. absurd has }
+    where
+      bot : Above h 0 (type_of s n)
+      bot = ok.lawful.bottom (type_of s n) (model.structure.total.types n low)
+
+      types : (k : ℕ) → Above h (type_of (one_node slots).graph k) (type_of s n)
+      types zero = bot
+      types (suc k) = bot
+
+      values : (k f m : ℕ) → value_of (one_node slots).graph k f ≡ Some m → value_of s n f ≡ Some n
+      values zero f m e = absurd (none_some e)
+      values (suc k) f m e = absurd (none_some e)
+
+  rule_elements : (f : ℕ → ℕ) (slots : ℕ) (es : List Element) → ((e : Element) → Has es e → FitsElement h slots e) → map (renamed f) es ≡ es
+  rule_elements f slots [] fit = refl
+  rule_elements f slots (e ∷ es) fit = go e (fit e (inl refl)) (rule_elements f slots es (λ d has. fit d (inr has)))
+    where
+      go : (d : Element) → FitsElement h slots d → map (renamed f) es ≡ es → renamed f d ∷ map (renamed f) es ≡ d ∷ es
+      go (cat x) b ih = ap (λ z. cat x ∷ z) ih
+      go (cats x) b ih = ap (λ z. cats x ∷ z) ih
+      go (sem_head x) b ih = ap (λ z. sem_head x ∷ z) ih
+      go (derived x) b ih = ap (λ z. derived x ∷ z) ih
+      go (member n) b ih = absurd b
+      go (tail n) b ih = absurd b
+
+  first_comes : (c : Ctx) (r : Rule) → Has program.rules r → c.mother ≡ r.mother → c.node < count s → c.from ≤ length sentence → Comes c c.from r.elements
+  first_comes c r has mother low place = go r.elements refl (closed.at_rule c.from place r has)
+    where
+      fits : FitsRule h r
+      fits = ok.fits.rules r has
+
+      go : (es : List Element) → r.elements ≡ es → (k : ℕ) × (mother_at program.rules (Some k) ≡ Some r.mother) × Has all (record { from = c.from; to = c.from; kept = one_node r.slots; root = 0; rule = Some k; rest = r.elements }) → Comes c c.from es
+      go [] eq first = absurd (subst (λ z. Has z fits.daughter.0) eq fits.daughter.1)
+      go (e ∷ es) eq first = record {
+        item = record { from = c.from; to = c.from; kept = one_node r.slots; root = 0; rule = Some first.0; rest = r.elements };
+        has = first.2;
+        number = first.1 ∙ ap Some (sym mother);
+        from = refl;
+        to = refl;
+        map_to = λ k. c.node;
+        is = one_goes r.slots c.node low;
+        root_to = refl;
+        rest = rule_elements (λ k. c.node) r.slots r.elements fits.elements ∙ eq;
+        env = λ v n b. absurd (none_bound r.slots v n b);
+      }
+
+  list_inside : (m i j : ℕ) → ListSpans h program s sentence m i j → m < count s
+  list_inside _ _ _ (ends m i low empty) = low
+  list_inside _ _ _ (goes_on m hd tl i j k low cell spans others) = low
+
+  module _ (all_words : AreAllWords h program words) where
+    standing : (e : Entry) (n i k : ℕ) → Has all (passive_of i k e) → StandsAt h s e n → Covered n i k
+    standing e n i k has at = record { item = passive_of i k e; has = has; passive = refl; from = refl; to = refl; subsumes = record { map = at.map; is = at.is; root_to = at.root_to } }
+
+    -- by induction on the derivation
+    mutual
+      pub span_on : (n i k : ℕ) → i ≤ length sentence → Spans h program s sentence n i k → Covered n i k
+      span_on _ _ _ place (by_word n i w at lexical) =
+          let r = all_words.entries s model w n lexical in
+          standing r.0 n i (suc i) (closed.at_word i w at r.0 r.1 r.2) r.3
+      span_on _ _ _ place (by_empty n i is) =
+          let r = all_words.empties s model n is in
+          standing r.0 n i i (closed.at_empty i place r.0 r.1) r.2
+      span_on _ _ _ place (by_rule n i k r assign has inside low holds_m covers) =
+          cover_on (record { mother = r.mother; assign = assign; inside = inside; node = n; from = i; holds = holds_m }) r.elements i k place covers
+            (first_comes (record { mother = r.mother; assign = assign; inside = inside; node = n; from = i; holds = holds_m }) r has refl low place)
+
+      cover_on : (c : Ctx) (es : List Element) (i k : ℕ) → i ≤ length sentence → Covers h program s sentence c.assign es i k → Comes c i es → Covered c.node c.from k
+      cover_on c _ _ _ place (no_more assign i) comes = comes
+      cover_on c _ _ _ place (by_cat assign d es m i j k holds_d spans covers) at =
+          let r = span_on m i j place spans in
+          cover_on c es j k (covered_place m i j r) covers (step_cat c i j d es m at holds_d r)
+      cover_on c _ _ _ place (by_head assign d es m i j k holds_d spans covers) at =
+          let r = span_on m i j place spans in
+          cover_on c es j k (covered_place m i j r) covers (step_head c i j d es m at holds_d r)
+      cover_on c _ _ _ place (by_cats assign d es m i j k holds_d spans covers) at =
+          let r = list_on c es m i j place spans (step_cats c i d es m at (list_inside m i j spans) holds_d) in
+          cover_on c es j k r.1 covers r.0
+      cover_on c _ _ _ place (by_goal assign g es i k derivable covers) at = cover_on c es i k place covers (step_goal c i g es at derivable)
+      cover_on c _ _ _ place (by_member assign es m hd i j k is_hd spans covers) at =
+          let r = span_on hd i j place spans in
+          cover_on c es j k (covered_place hd i j r) covers (step_member c i j es m hd at is_hd r)
+      cover_on c _ _ _ place (by_tail assign es m tl i j k is_tl spans covers) at =
+          let r = list_on c es tl i j place spans (step_tail c i es m tl at is_tl) in
+          cover_on c es j k r.1 covers r.0
+
+      list_on : (c : Ctx) (es : List Element) (m i k : ℕ) → i ≤ length sentence → ListSpans h program s sentence m i k → Opens c i m es → Comes c k es × (k ≤ length sentence)
+      list_on c es _ _ _ place (ends m i low empty) opens = (opens.0 empty, place)
+      list_on c es _ _ _ place (goes_on m hd tl i j k low cell spans others) opens =
+          let r = span_on hd i j place spans in
+          list_on c es tl j k (covered_place hd i j r) others (step_tail c j es m tl (step_member c i j (tail m ∷ es) m hd (opens.1 cell.is_list) cell.hd_is r) cell.tl_is)

@@ -1,5 +1,7 @@
 -- What the items of a chart are, and that each start of an item's own search, and of one with another item, is a state.
-use Rattle.std.proofs.Common.{◌≡◌, ℕ, zero, suc, ◌+◌, ◌<◌, ◌≤◌, IsTrue, List, [], ◌∷◌, ◌++◌, length, ◌⊎◌, inl, inr, refl, sym, ap, ◌∙◌, subst, arith, Option, Some, None}
+use Rattle.std.proofs.Common.{◌≡◌, ℕ, zero, suc, ◌+◌, ◌<◌, ◌≤◌, IsTrue, List, [], ◌∷◌, ◌++◌, length, ◌⊎◌, inl, inr, refl, sym, ap, ◌∙◌, subst, arith, replicate, Option, Some, None}
+use Rattle.std.proofs.lemmas.Bool.{cases_lt}
+use Rattle.std.proofs.lemmas.List.{get_or-replicate, get_or_past, length-replicate}
 use Rattle.ale_declared.specs.Lists.{Has}
 use Rattle.ale_hierarchy.specs.Hierarchy.{Hierarchy, IsLawful}
 use Rattle.ale_graph.specs.declared.fact.Fact.{Fact}
@@ -97,6 +99,16 @@ moved_has by ps n k has =
 pub one_below : (next : ℕ) (env : Environment) → ((v n : ℕ) → bound_in env v ≡ Some n → n < next) → IsBelow next (env ∷ [])
 one_below next env low zero v n e = low v n e
 one_below next env low (suc k) v n e = absurd (none_some e)
+
+-- nothing is bound in an environment without nodes
+pub none_bound : (slots v n : ℕ) → bound_in (replicate slots None) v ≡ Some n → ⊥
+none_bound slots v n e = go (cases_lt v slots)
+  where
+    go : (v < slots) ⊎ (slots ≤ v) → ⊥
+    go (inl low) = none_some (sym (get_or-replicate slots v None None low) ∙ e)
+    go (inr far) =
+        let past : length (replicate {A = Option ℕ} slots None) ≤ v = let l = length-replicate {A = Option ℕ} slots None in omega arith in
+        none_some (sym (get_or_past (replicate slots None) v None past) ∙ e)
 
 -- the values of a list node are nodes
 pub hd_below : (s : Structure) → IsTrue (is_formed s) → (o : Option ListTypes) (n m : ℕ) → hd_of o s n ≡ Some m → m < count s
