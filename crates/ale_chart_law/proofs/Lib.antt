@@ -3,3 +3,4 @@ pub mod Items
 pub mod Searches
 pub mod Maps
 pub mod Covering
+pub mod Advancing
