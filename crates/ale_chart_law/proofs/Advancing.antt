@@ -133,7 +133,7 @@ module _ (h : Hierarchy) (program : Program) (u : Structure) (str : IsStructure 
   -- what the start of a search of x with the elements `e` and then `es` says, where so many elements remain in the end
   pub record Advances (sentence : List Word) (e : Element) (es : List Element) (to : ℕ) (remain : List Element) : Type 0 where
     -- those behind the first, or the member and the tail of a list before them
-    pub rests : (remain ≡ es) ⊎ ((n : ℕ) × IsNonEmptyList h program u (z.node n) × (remain ≡ member n ∷ tail n ∷ es))
+    pub rests : (remain ≡ es) ⊎ ((n : ℕ) × (z.node n < count u) × IsNonEmptyList h program u (z.node n) × (remain ≡ member n ∷ tail n ∷ es))
     -- what covers them from where the search leads covers those of the item from its end
     pub covers : (k : ℕ) → Covers h program u sentence (z.var 0) (map (renamed z.node) remain) to k → Covers h program u sentence (z.var 0) (map (renamed z.node) (e ∷ es)) x.to k
     pub mother : (d : Description) → mother_at program.rules x.rule ≡ Some d → remain ≡ [] → HoldsAt h u (z.var 0) d (z.node x.root)
@@ -173,9 +173,9 @@ module _ (h : Hierarchy) (program : Program) (u : Structure) (str : IsStructure 
       }
 
   -- which elements remain of an open list, and what holds at its end
-  split_rests : (n : ℕ) (es remain : List Element) (o : Option (ℕ × Description)) → HoldItems (wordless h program) u z (split n o ∷ []) es remain → (remain ≡ es) ⊎ ((m : ℕ) × IsNonEmptyList h program u (z.node m) × (remain ≡ member m ∷ tail m ∷ es))
-  split_rests n es remain o (inl (empty, end, p)) = inl p
-  split_rests n es remain o (inr (longer, p)) = inr (n, longer, p)
+  split_rests : (n : ℕ) (es remain : List Element) → z.node n < count u → (o : Option (ℕ × Description)) → HoldItems (wordless h program) u z (split n o ∷ []) es remain → (remain ≡ es) ⊎ ((m : ℕ) × (z.node m < count u) × IsNonEmptyList h program u (z.node m) × (remain ≡ member m ∷ tail m ∷ es))
+  split_rests n es remain low o (inl (empty, end, p)) = inl p
+  split_rests n es remain low o (inr (longer, p)) = inr (n, low, longer, p)
 
   split_mother : (n : ℕ) (es remain : List Element) → HoldItems (wordless h program) u z (split n (end_of program x es) ∷ []) es remain → (d : Description) → mother_at program.rules x.rule ≡ Some d → remain ≡ [] → HoldsAt h u (z.var 0) d (z.node x.root)
   split_mother n es remain (inl (empty, end, p)) d number none = mother_holds es d number (sym p ∙ none) end
@@ -199,7 +199,7 @@ module _ (h : Hierarchy) (program : Program) (u : Structure) (str : IsStructure 
       go q =
           let low : z.node (0 + count x.kept.graph) < count u = q.fulfils.into (0 + count x.kept.graph) (omega arith) in
           record {
-            rests = split_rests (0 + count x.kept.graph) es remain (end_of program x es) q.items.1;
+            rests = split_rests (0 + count x.kept.graph) es remain low (end_of program x es) q.items.1;
             covers = λ k cov.
                 let l = listed sentence (0 + count x.kept.graph) es x.to remain k low (end_of program x es) q.items.1 cov in
                 by_cats (z.var 0) d (map (renamed z.node) es) (z.node (0 + count x.kept.graph)) x.to l.place k q.items.0 l.spans l.covers;
@@ -217,7 +217,7 @@ module _ (h : Hierarchy) (program : Program) (u : Structure) (str : IsStructure 
               let is_tl : IsTl program u (z.node n) (z.node m) = tl_on program.lists x.kept.graph u z.node mor.values n m q in
               let low : z.node m < count u = tl_below u str.formed program.lists (z.node n) (z.node m) is_tl in
               record {
-                rests = split_rests m es remain (end_of program x es) r.items;
+                rests = split_rests m es remain low (end_of program x es) r.items;
                 covers = λ k cov.
                     let l = listed sentence m es x.to remain k low (end_of program x es) r.items cov in
                     by_tail (z.var 0) (map (renamed z.node) es) (z.node n) (z.node m) x.to l.place k is_tl l.spans l.covers;

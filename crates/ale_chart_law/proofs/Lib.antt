@@ -4,3 +4,4 @@ pub mod Searches
 pub mod Maps
 pub mod Covering
 pub mod Advancing
+pub mod Results
