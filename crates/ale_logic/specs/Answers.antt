@@ -10,6 +10,7 @@ use Rattle.ale_logic.specs.Descriptions.{Description, IsAssignment, Describes, F
 use Rattle.ale_logic.specs.Goals.{Goal, FitsGoal, IsPlain}
 use Rattle.ale_logic.specs.Programs.{Program}
 use Rattle.ale_logic.specs.Fitting.{FitsProgram, IsPlainProgram}
+use Rattle.ale_logic.specs.Derivations.{Derivable}
 use Rattle.ale_logic.specs.Solutions.{SolvesDescription, SolvesGoal}
 use Rattle.ale_logic.specs.States.{bound, State}
 use Rattle.ale_engine.specs.Engine.{Outcome, search}
@@ -61,6 +62,8 @@ pub record GoalLaw (h : Hierarchy) (program : Program) (slots : ℕ) (g : Goal) 
   pub sound : (a : Answer) → Has (found_from h program budget (start_goal slots g)).answers a → (free : ℕ → ℕ) → IsAssignment a.closed.graph free → SolvesGoal h program g a.closed.graph (node_for a free)
   pub complete : (found_from h program budget (start_goal slots g)).finished ≡ true → (s : Structure) (assign : ℕ → ℕ) → SolvesGoal h program g s assign →
       (a : Answer) × Has (found_from h program budget (start_goal slots g)).answers a × SubsumesGoal h a s assign
+  -- each structure into which an answer goes derives the goal, whatever node an unbound variable stands for
+  pub subsumed : (a : Answer) → Has (found_from h program budget (start_goal slots g)).answers a → (s : Structure) (assign : ℕ → ℕ) → IsStructure h s → IsAssignment s assign → SubsumesGoal h a s assign → Derivable h program s assign g
 
 abbrev pub DescriptionLaws : Type 0
 DescriptionLaws = (h : Hierarchy) (program : Program) (slots : ℕ) (d : Description) (budget : ℕ) → IsAccepted h program → FitsDescription h slots d → DescriptionLaw h program slots d budget
