@@ -5,3 +5,5 @@ pub mod Maps
 pub mod Covering
 pub mod Advancing
 pub mod Results
+pub mod Extensions
+pub mod Good
