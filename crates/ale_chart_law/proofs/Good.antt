@@ -17,7 +17,7 @@ use Rattle.ale_logic.specs.Spans.Covers.{no_more}
 use Rattle.ale_logic.specs.States.{bound, State}
 use Rattle.ale_logic.specs.Putting.{moved}
 use Rattle.ale_logic.specs.Satisfaction.{Sense, Satisfies}
-use Rattle.ale_logic.specs.Parts.{Part, Extract, renamed}
+use Rattle.ale_logic.specs.Parts.{Part, Extract, renamed, kept_answer}
 use Rattle.ale_logic.specs.PartLaws.{IsReattached, IsPart, PartLaw}
 use Rattle.ale_logic.specs.PutLaws.{PutLaws}
 use Rattle.ale_logic.specs.Extending.{AddedMeet, IsSoundFor, OwesNothing}
@@ -27,6 +27,7 @@ use Rattle.ale_logic.specs.Lexicons.{wordless}
 use Rattle.ale_logic.specs.Answers.{IsAccepted}
 use Rattle.ale_logic.specs.Starts.{ChartItem, mother_at, own_start, daughter_start}
 use Rattle.ale_logic.specs.Charts.{item_of}
+use Rattle.ale_engine.proofs.Lists.{in_map}
 use Rattle.ale_run_law.proofs.Rises.{rise_on}
 use Rattle.ale_extension_law.proofs.Stays as stays
 use Rattle.ale_chart_law.proofs.Items.{IsItem, IsStart, own_is, daughter_is, moved_has}
@@ -177,3 +178,122 @@ module _ (h : Hierarchy) (program : Program) (ok : IsAccepted h program) (runs :
                 ((g.advances g.larger g.extends.larger (extends_self h g.larger g.extends.larger) (assign_by a back.map (back.map (node_of a.closed x.root))) here).mother mother number none)
                 to (subst (λ ds. Covers h program g.larger sentence (here.sense.var 0) (map (renamed here.sense.node) ds) to to) (sym none) (no_more (here.sense.var 0) to)))
         says (d ∷ ds) q = pends d ds q
+
+  -- what an own search of an item gives is good, and what one with a daughter gives
+  module _ (x : ChartItem) (good : IsGood h program sentence x) (e : Element) (es : List Element) (eq : x.rest ≡ e ∷ es) where
+    result_good : (st : State) (start : IsStart h x st) → Leads h program ok puts x es st → (a : Answer) (r : Came h program ok runs st a) (to : ℕ) → x.to ≤ to → to ≤ length sentence →
+        ((s : Structure) (f : ℕ → ℕ) → IsStructure h s → IsMorphismAside h a.closed.graph s f → Grounded x e es st a to s f) → IsGood h program sentence (item_of x.from to x.rule (extract x.root a))
+    result_good st start leads a r to after place grounded = record {
+      item = result_is h program ok puts runs extract part x good.item e es eq st start leads a r to;
+      ordered = let before = good.ordered in omega arith;
+      place = place;
+      owes = λ none. is.owes owes_all;
+      rises = result_rises x good.item e es st start a r to (good.item.active e es eq).mother (good.item.active e es eq).number grounded;
+    }
+      where
+        is : IsPart h program x.root a (extract x.root a)
+        is = part_of h program ok runs extract part st a r.is x.root (let far = start.far in let root = good.item.is.root_below in omega arith)
+
+        owes_all : OwesNothing h program (kept_answer a)
+        owes_all n k c low at above =
+            let i = r.is.all_imposed n k c low at above in
+            subst (λ m. Has {A = ℕ × ℕ} (map (λ (w : ℕ × ℕ). (node_of a.closed w.0, w.1)) a.state.imposed) (m, k)) i.2 (in_map (λ (w : ℕ × ℕ). (node_of a.closed w.0, w.1)) a.state.imposed (i.0, k) i.1)
+
+    -- where the answer's graph goes, the item's structure goes
+    goes_first : (st : State) (start : IsStart h x st) → Leads h program ok puts x es st → (a : Answer) (r : Came h program ok runs st a) → (s : Structure) (f : ℕ → ℕ) → IsStructure h s → IsMorphismAside h a.closed.graph s f →
+        Back h program ok runs st a s f (assign_by a f (f (node_of a.closed x.root)))
+    goes_first st start leads a r s f str mor =
+        r.back s f str mor (assign_by a f (f (node_of a.closed x.root)))
+          (assign_inside a s f (f (node_of a.closed x.root)) (mor.into (node_of a.closed x.root) (inside_all x.root (let far = start.far in let root = good.item.is.root_below in omega arith)))
+            (λ v n b. mor.into (node_of a.closed n) (let low = r.is.is.below 0 v n b in let longer = r.is.longer in r.is.nodes n (omega arith))))
+          (assign_bound a f (f (node_of a.closed x.root)))
+      where
+        inside_all : (n : ℕ) → n < st.next → node_of a.closed n < count a.closed.graph
+        inside_all n low = let next = r.is.next in let longer = r.is.longer in r.is.nodes n (omega arith)
+
+    pub own_good : (st : State) → Has (own_start program x e es) st → (a : Answer) → Came h program ok runs st a → IsGood h program sentence (item_of x.from x.to x.rule (extract x.root a))
+    own_good st has a r = result_good st start leads a r x.to (omega arith) good.place grounded
+      where
+        start : IsStart h x st
+        start = own_is h program ok.lawful x good.item e es eq st has
+
+        leads : Leads h program ok puts x es st
+        leads = own_leads h program ok puts x e es st has
+
+        shape : OwnShape x st
+        shape = own_shape program x e es st has
+
+        grounded : (s : Structure) (f : ℕ → ℕ) → IsStructure h s → IsMorphismAside h a.closed.graph s f → Grounded x e es st a x.to s f
+        grounded s f str mor = record {
+          larger = first.larger;
+          extends = first.extends;
+          added = first.added;
+          imposed = λ n k given. pair n k (moved_has 0 x.kept.imposed n k (subst (λ w. Has w (n, k)) shape.imposed given));
+          pending = subst (Says h program sentence x first.larger (λ n. f (node_of a.closed n))) eq first.says;
+          advances = λ u u_str ext assign b. own_advances h program u u_str b.sense x sentence e es a.state.rest st (leads.down u b.sense a.state.rest u_str b.satisfies) has b.satisfies;
+        }
+          where
+            b : Back h program ok runs st a s f (assign_by a f (f (node_of a.closed x.root)))
+            b = goes_first st start leads a r s f str mor
+
+            first : Rises h program sentence x s (λ n. f (node_of a.closed n))
+            first = good.rises s (λ n. f (node_of a.closed n)) str (subst (IsMorphismAside h x.kept.graph s) b.node (leads.down s b.sense a.state.rest str b.satisfies))
+
+            pair : (n k : ℕ) → (m : ℕ) × Has x.kept.imposed (m, k) × (n ≡ 0 + m) → MeetsAt h program first.larger k (f (node_of a.closed n))
+            pair n k (m, given, is) = let same : m ≡ n = omega arith in subst (λ w. MeetsAt h program first.larger k (f (node_of a.closed w))) same (first.imposed m k given)
+
+    pub pair_good : (y : ChartItem) → IsGood h program sentence y → y.rest ≡ [] → y.from ≡ x.to → (st : State) → Has (daughter_start program x e es y) st → (a : Answer) → Came h program ok runs st a → IsGood h program sentence (item_of x.from y.to x.rule (extract x.root a))
+    pair_good y other passive begins st has a r = result_good st start leads a r y.to (let after = other.ordered in omega arith) other.place grounded
+      where
+        start : IsStart h x st
+        start = daughter_is h program ok.lawful x good.item e es eq y other.item st has
+
+        leads : Leads h program ok puts x es st
+        leads = pair_leads h program ok puts x y e es st has
+
+        shape : PairShape x y st
+        shape = pair_shape program x e es y st has
+
+        grounded : (s : Structure) (f : ℕ → ℕ) → IsStructure h s → IsMorphismAside h a.closed.graph s f → Grounded x e es st a y.to s f
+        grounded s f str mor = record {
+          larger = second.larger;
+          extends = extends_on h s first.larger second.larger first.extends second.extends;
+          added = added_on h program first.larger second.larger second.extends s first.added second.added;
+          imposed = λ n k given. pair n k (has_either (moved 0 x.kept.imposed) (moved (0 + count x.kept.graph) y.kept.imposed) (n, k) (subst (λ w. Has w (n, k)) shape.imposed given));
+          pending = λ u ext. (subst (Says h program sentence x first.larger (λ n. f (node_of a.closed n))) eq first.says) u (extends_on h first.larger second.larger u second.extends ext);
+          advances = λ u u_str ext assign back. pair_advances h program u u_str back.sense x sentence e es a.state.rest y st (leads.down u back.sense a.state.rest u_str back.satisfies) begins
+              (subst (λ w. Spans h program u sentence (w ((0 + count x.kept.graph) + y.root)) y.from y.to) (sym back.node) ((stays.stays_law h program second.larger u ext).spans sentence (f (node_of a.closed ((0 + count x.kept.graph) + y.root))) y.from y.to spans))
+              has back.satisfies;
+        }
+          where
+            b : Back h program ok runs st a s f (assign_by a f (f (node_of a.closed x.root)))
+            b = goes_first st start leads a r s f str mor
+
+            x_goes : IsMorphismAside h x.kept.graph s (λ n. f (node_of a.closed n))
+            x_goes = subst (IsMorphismAside h x.kept.graph s) b.node (leads.down s b.sense a.state.rest str b.satisfies)
+
+            first : Rises h program sentence x s (λ n. f (node_of a.closed n))
+            first = good.rises s (λ n. f (node_of a.closed n)) str x_goes
+
+            y_goes : IsMorphismAside h y.kept.graph first.larger (λ n. f (node_of a.closed ((0 + count x.kept.graph) + n)))
+            y_goes = morphism_on h y.kept.graph s first.larger (λ n. f (node_of a.closed ((0 + count x.kept.graph) + n))) first.extends
+                (subst (λ (w : ℕ → ℕ). IsMorphismAside h y.kept.graph s (λ n. w ((0 + count x.kept.graph) + n))) b.node (other_down h program ok puts x y st shape s b.sense a.state.rest b.satisfies))
+
+            second : Rises h program sentence y first.larger (λ n. f (node_of a.closed ((0 + count x.kept.graph) + n)))
+            second = other.rises first.larger (λ n. f (node_of a.closed ((0 + count x.kept.graph) + n))) first.extends.larger y_goes
+
+            spans : Spans h program second.larger sentence (f (node_of a.closed ((0 + count x.kept.graph) + y.root))) y.from y.to
+            spans = subst (Says h program sentence y second.larger (λ n. f (node_of a.closed ((0 + count x.kept.graph) + n)))) passive second.says
+
+            pair : (n k : ℕ) → Has (moved 0 x.kept.imposed) (n, k) ⊎ Has (moved (0 + count x.kept.graph) y.kept.imposed) (n, k) → MeetsAt h program second.larger k (f (node_of a.closed n))
+            pair n k (inl given) = of (moved_has 0 x.kept.imposed n k given)
+              where
+                of : (m : ℕ) × Has x.kept.imposed (m, k) × (n ≡ 0 + m) → MeetsAt h program second.larger k (f (node_of a.closed n))
+                of (m, at, is) =
+                    let same : m ≡ n = omega arith in
+                    let inner : f (node_of a.closed m) < count first.larger = stays.within h s first.larger first.extends (f (node_of a.closed m)) (x_goes.into m (good.item.is.imposed_below m k at)) in
+                    subst (λ w. MeetsAt h program second.larger k (f (node_of a.closed w))) same (meets_on h program first.larger second.larger second.extends k (f (node_of a.closed m)) inner (first.imposed m k at))
+            pair n k (inr given) = of (moved_has (0 + count x.kept.graph) y.kept.imposed n k given)
+              where
+                of : (m : ℕ) × Has y.kept.imposed (m, k) × (n ≡ (0 + count x.kept.graph) + m) → MeetsAt h program second.larger k (f (node_of a.closed n))
+                of (m, at, is) = subst (λ w. MeetsAt h program second.larger k (f (node_of a.closed w))) (sym is) (second.imposed m k at)
