@@ -7,3 +7,5 @@ pub mod Advancing
 pub mod Results
 pub mod Extensions
 pub mod Good
+pub mod Grown
+pub mod Beginning
