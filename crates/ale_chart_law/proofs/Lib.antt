@@ -9,3 +9,4 @@ pub mod Extensions
 pub mod Good
 pub mod Grown
 pub mod Beginning
+pub mod Budgets
