@@ -10,3 +10,4 @@ pub mod Good
 pub mod Grown
 pub mod Beginning
 pub mod Budgets
+pub mod Whole
