@@ -13,7 +13,7 @@ use Rattle.ale_graph.proofs.Structures.{get_has}
 use Rattle.ale_logic.specs.Putting.{value_facts, node_facts, pair_facts, graph_facts}
 use Rattle.ale_logic.specs.PutLaws.{PutLaws}
 
-abbrev past : Node
+abbrev pub past : Node
 past = record { of = 0; values = [] }
 
 module _ (by : ℕ) where
@@ -73,7 +73,7 @@ module _ (by : ℕ) where
         from_zero n P p = let same : 0 + n ≡ n = omega arith in subst P same p
 
     -- in rising values each one is the value by its feature
-    value_there : (vs : List (ℕ × ℕ)) → is_rising vs ≡ true → (v : ℕ × ℕ) → Has vs v → value_in vs v.0 ≡ Some v.1
+    pub value_there : (vs : List (ℕ × ℕ)) → is_rising vs ≡ true → (v : ℕ × ℕ) → Has vs v → value_in vs v.0 ≡ Some v.1
     value_there [] rising v k = absurd k
     value_there (w ∷ vs) rising v k = go (value_there vs (and_parts (every (λ u. ltb w.0 u.0) vs) (is_rising vs) rising).1 v) k
       where

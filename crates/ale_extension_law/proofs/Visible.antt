@@ -49,7 +49,7 @@ formed_with s roots formed low =
     let more = and_parts (every (λ (p : ℕ × ℕ). ltb p.0 (count s) && ltb p.1 (count s)) s.differ) (every (is_root (count s)) s.roots) parts.1 in
     and_from (every (is_node (count s)) s.nodes) _ parts.0 (and_from (every (λ (p : ℕ × ℕ). ltb p.0 (count s) && ltb p.1 (count s)) s.differ) (every (is_root (count s)) roots) more.0 (roots_in (count s) roots low))
 
-pair_inside : (s : Structure) → IsTrue (is_formed s) → (p : ℕ × ℕ) → Has s.differ p → (p.0 < count s) × (p.1 < count s)
+pub pair_inside : (s : Structure) → IsTrue (is_formed s) → (p : ℕ × ℕ) → Has s.differ p → (p.0 < count s) × (p.1 < count s)
 pair_inside s formed p has =
     let parts = and_parts (every (is_node (count s)) s.nodes) _ formed in
     let more = and_parts (every (λ (q : ℕ × ℕ). ltb q.0 (count s) && ltb q.1 (count s)) s.differ) (every (is_root (count s)) s.roots) parts.1 in
