@@ -6,3 +6,4 @@ pub mod LexiconBudgets
 pub mod Modelled
 pub mod Rises
 pub mod Runs
+pub mod Whole
