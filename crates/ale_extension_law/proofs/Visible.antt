@@ -166,7 +166,7 @@ module _ (law : VisibleLaw) (h : Hierarchy) (s t : Structure) (roots : List (Opt
   same_pairs =
       ap (map (pair_by (renumbered large))) ext.differ
       ∙ map_alike (pair_by (renumbered large)) (pair_by (renumbered small)) s.differ
-        (λ p has. one p (pair_inside s ext.smaller.formed p has))
+      (λ p has. one p (pair_inside s ext.smaller.formed p has))
     where
       one : (p : ℕ × ℕ) → (p.0 < count s) × (p.1 < count s) → pair_by (renumbered large) p ≡ pair_by (renumbered small) p
       one p both = ap (λ i. made i (renumbered large p.1)) (same_number p.0 both.0) ∙ ap (made (renumbered small p.0)) (same_number p.1 both.1)

@@ -1,6 +1,6 @@
 -- What a lexical rule makes of an entry: a sound entry where the entry is sound, and where the search ended, one
 -- wherever the rule leads from the entry in a model.
-use Rattle.std.proofs.Common.{◌≡◌, ℕ, suc, ◌+◌, ◌<◌, ◌≤◌, true, List, [], ◌∷◌, map, ◌⊎◌, inl, inr, refl, sym, ap, ◌∙◌, subst, arith, Some}
+use Rattle.std.proofs.Common.{◌≡◌, ℕ, suc, ◌+◌, ◌<◌, true, sym, ap, ◌∙◌, subst, arith, Some}
 use Rattle.ale_declared.specs.Lists.{Has}
 use Rattle.ale_hierarchy.specs.Hierarchy.{Hierarchy}
 use Rattle.ale_graph.specs.Structures.{Structure, IsStructure, count}
@@ -21,7 +21,7 @@ use Rattle.ale_logic.specs.Satisfaction.{Satisfies}
 use Rattle.ale_logic.specs.Visits.{Answer}
 use Rattle.ale_logic.specs.Parts.{Part, Extract}
 use Rattle.ale_logic.specs.Lexicons.{wordless, entry_of}
-use Rattle.ale_logic.specs.Runs.{Returns, RunLaws}
+use Rattle.ale_logic.specs.Runs.{RunLaws}
 use Rattle.ale_logic.specs.Extending.{HasSoundExtension, OwesNothing}
 use Rattle.ale_logic.specs.PartLaws.{IsPart, PartLaw}
 use Rattle.ale_logic.specs.Answers.{IsAccepted, found_from}
@@ -32,7 +32,7 @@ use Rattle.ale_run_law.proofs.First.{Came, free_at, root_inside}
 use Rattle.ale_run_law.proofs.Answers as answers
 use Rattle.ale_run_law.proofs.Kept.{keepable, owes_nothing}
 use Rattle.ale_run_law.proofs.Rises.{rise_on, all_met_on}
-use Rattle.ale_lexicon_law.proofs.RuleStart.{rule_starts, rule_plain, rule_imposed, rule_rest, rule_said, rule_next, FitsThere, rule_down, sense, last_node, rule_up}
+use Rattle.ale_lexicon_law.proofs.RuleStart.{rule_starts, rule_plain, rule_imposed, rule_rest, rule_said, rule_next, rule_down, sense, last_node, rule_up}
 
 -- an entry of this level: whole, owing nothing, and lexical wherever it goes, in a sound extension
 pub record IsEntryAt (h : Hierarchy) (program : Program) (level : ℕ) (e : Entry) : Type 0 where
@@ -85,18 +85,18 @@ module _ (runs : RunLaws) (extract : Extract) (h : Hierarchy) (program : Program
           let t = sound r.larger (λ n. back.sense.node (0 + n)) r.extends.larger fits.goes in
           let stay = stays.stays_law h program r.larger t.larger t.extends in
           let out : back.sense.node (0 + count x.kept.graph) ≡ to part.root =
-              (let same : 0 + count x.kept.graph ≡ count x.kept.graph = omega arith in ap back.sense.node same)
-              ∙ back.node (count x.kept.graph) ∙ ap r.map (sym p.root_is) ∙ r.agrees part.root p.is.root_below in
+          (let same : 0 + count x.kept.graph ≡ count x.kept.graph = omega arith in ap back.sense.node same)
+          ∙ back.node (count x.kept.graph) ∙ ap r.map (sym p.root_is) ∙ r.agrees part.root p.is.root_below in
           let root_low : back.sense.node (0 + x.root) < count r.larger = fits.goes.into x.root is.root_below in
           let zero_root : 0 + x.root ≡ x.root = omega arith in
           let out_inside : back.sense.node (0 + count x.kept.graph) < count r.larger =
-              back.satisfies.fulfils.into (0 + count x.kept.graph) (let first = rule_next h rule x in omega arith) in
+          back.satisfies.fulfils.into (0 + count x.kept.graph) (let first = rule_next h rule x in omega arith) in
           let met = all_met_on gr (answers.none_brought runs h program accepted) r.larger t.larger t.extends (start_lex rule x) a c.is r.map r.is free back (λ n k given.
-              let e = has_map (λ (q : ℕ × ℕ). (0 + q.0, q.1)) x.kept.imposed (n, k) (subst (λ ps. Has ps (n, k)) (rule_imposed h rule x) given) in
-              let first : n ≡ 0 + e.0.0 = ap (λ (q : ℕ × ℕ). q.0) e.2 in
-              let second : k ≡ e.0.1 = ap (λ (q : ℕ × ℕ). q.1) e.2 in
-              subst (λ z. MeetsAt h program t.larger z (r.map (node_of a.closed n))) (sym second)
-                (subst (MeetsAt h program t.larger e.0.1) (ap back.sense.node (sym first) ∙ back.node n) (t.sound.imposed e.0.0 e.0.1 e.1))) in
+          let e = has_map (λ (q : ℕ × ℕ). (0 + q.0, q.1)) x.kept.imposed (n, k) (subst (λ ps. Has ps (n, k)) (rule_imposed h rule x) given) in
+          let first : n ≡ 0 + e.0.0 = ap (λ (q : ℕ × ℕ). q.0) e.2 in
+          let second : k ≡ e.0.1 = ap (λ (q : ℕ × ℕ). q.1) e.2 in
+          subst (λ z. MeetsAt h program t.larger z (r.map (node_of a.closed n))) (sym second)
+          (subst (MeetsAt h program t.larger e.0.1) (ap back.sense.node (sym first) ∙ back.node n) (t.sound.imposed e.0.0 e.0.1 e.1))) in
           record {
             larger = t.larger;
             extends = extends_through h s r.larger t.larger r.extends t.extends;
@@ -128,20 +128,23 @@ module _ (runs : RunLaws) (extract : Extract) (h : Hierarchy) (program : Program
 
   -- where the rule leads in a model, something of an answer goes
   pub rule_full : (found_from h program budget (start_lex rule x)).finished ≡ true → (s : Structure) → IsModel h program s → (to : ℕ → ℕ) → IsMorphismAside h x.kept.graph s to → (n : ℕ) → n < count s → (assign : ℕ → ℕ) → IsAssignment s assign →
-    HoldsAt h s assign rule.input (to x.root) → HoldsAt h s assign rule.output n → Derivable h program s assign (goal_of rule.goal) →
-    (a : Answer) × Has (found_from h program budget (start_lex rule x)).answers a × ((w : Word) → StandsAt h s (entry_of w (suc x.level) (extract (count x.kept.graph) a)) n)
+      HoldsAt h s assign rule.input (to x.root) → HoldsAt h s assign rule.output n → Derivable h program s assign (goal_of rule.goal) →
+      (a : Answer) × Has (found_from h program budget (start_lex rule x)).answers a × ((w : Word) → StandsAt h s (entry_of w (suc x.level) (extract (count x.kept.graph) a)) n)
   rule_full fin s model to goes n low assign nodes input out derived =
       let sat = rule_up gr rule x s is to n assign goes low nodes input out derived in
       let r = answers.found_at runs h program accepted (start_lex rule x) starts plain budget fin s model (sense gr rule x s is to n assign goes low nodes) (subst (Satisfies gr s (sense gr rule x s is to n assign goes low nodes) (start_lex rule x)) (sym (rule_rest h rule x)) sat) in
       let p = part_of r.answer r.has in
       let same : 0 + count x.kept.graph ≡ count x.kept.graph = omega arith in
       let there : r.map (node_of r.answer.closed (count x.kept.graph)) ≡ n =
-          r.lands (count x.kept.graph) (out_low r.answer r.has)
-          ∙ r.agrees.node (count x.kept.graph) (let first = rule_next h rule x in omega arith)
-          ∙ ap (sense gr rule x s is to n assign goes low nodes).node (sym same)
-          ∙ last_node gr rule x s is to n assign goes low nodes in
-      (r.answer, r.has, λ w. record {
-        map = λ k. r.map ((extract (count x.kept.graph) r.answer).whole k);
-        is = p.onward s r.map r.is;
-        root_to = ap r.map p.root_is ∙ there;
-      })
+      r.lands (count x.kept.graph) (out_low r.answer r.has)
+      ∙ r.agrees.node (count x.kept.graph) (let first = rule_next h rule x in omega arith)
+      ∙ ap (sense gr rule x s is to n assign goes low nodes).node (sym same)
+      ∙ last_node gr rule x s is to n assign goes low nodes in (
+        r.answer,
+        r.has,
+        λ w. record {
+          map = λ k. r.map ((extract (count x.kept.graph) r.answer).whole k);
+          is = p.onward s r.map r.is;
+          root_to = ap r.map p.root_is ∙ there;
+        },
+      )
