@@ -11,3 +11,4 @@ pub mod Grown
 pub mod Beginning
 pub mod Budgets
 pub mod Whole
+pub mod Starting
