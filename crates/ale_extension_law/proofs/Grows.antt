@@ -27,7 +27,7 @@ sound_model h program kept root t is owes ext sound = record {
 
 -- what holds in a sound extension of the kept graph itself solves, in a model that shows the same
 pub grows : VisibleLaw → (h : Hierarchy) (program : Program) (kept : Kept) (root : ℕ) (Says Solves : Structure → Type 0) → IsKept h kept root → OwesNothing h program kept →
-  HasSoundExtension h program kept kept.graph (λ n. n) Says → ((t : Structure) → IsModel h program t → count kept.graph ≤ count t → Says t → Solves t) → GrowsTo h kept.graph root Solves
+    HasSoundExtension h program kept kept.graph (λ n. n) Says → ((t : Structure) → IsModel h program t → count kept.graph ≤ count t → Says t → Solves t) → GrowsTo h kept.graph root Solves
 grows law h program kept root Says Solves is owes e on = record {
   larger = e.larger;
   extends = e.extends;

@@ -49,7 +49,7 @@ formed_with s roots formed low =
     let more = and_parts (every (λ (p : ℕ × ℕ). ltb p.0 (count s) && ltb p.1 (count s)) s.differ) (every (is_root (count s)) s.roots) parts.1 in
     and_from (every (is_node (count s)) s.nodes) _ parts.0 (and_from (every (λ (p : ℕ × ℕ). ltb p.0 (count s) && ltb p.1 (count s)) s.differ) (every (is_root (count s)) roots) more.0 (roots_in (count s) roots low))
 
-pair_inside : (s : Structure) → IsTrue (is_formed s) → (p : ℕ × ℕ) → Has s.differ p → (p.0 < count s) × (p.1 < count s)
+pub pair_inside : (s : Structure) → IsTrue (is_formed s) → (p : ℕ × ℕ) → Has s.differ p → (p.0 < count s) × (p.1 < count s)
 pair_inside s formed p has =
     let parts = and_parts (every (is_node (count s)) s.nodes) _ formed in
     let more = and_parts (every (λ (q : ℕ × ℕ). ltb q.0 (count s) && ltb q.1 (count s)) s.differ) (every (is_root (count s)) s.roots) parts.1 in
@@ -166,7 +166,7 @@ module _ (law : VisibleLaw) (h : Hierarchy) (s t : Structure) (roots : List (Opt
   same_pairs =
       ap (map (pair_by (renumbered large))) ext.differ
       ∙ map_alike (pair_by (renumbered large)) (pair_by (renumbered small)) s.differ
-        (λ p has. one p (pair_inside s ext.smaller.formed p has))
+      (λ p has. one p (pair_inside s ext.smaller.formed p has))
     where
       one : (p : ℕ × ℕ) → (p.0 < count s) × (p.1 < count s) → pair_by (renumbered large) p ≡ pair_by (renumbered small) p
       one p both = ap (λ i. made i (renumbered large p.1)) (same_number p.0 both.0) ∙ ap (made (renumbered small p.0)) (same_number p.1 both.1)

@@ -16,6 +16,7 @@ pub mod Lexical
 pub mod LexiconLaws
 pub mod Lexicons
 pub mod ListNodes
+pub mod ModelLaws
 pub mod Models
 pub mod PartLaws
 pub mod Parts

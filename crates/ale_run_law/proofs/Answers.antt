@@ -76,7 +76,7 @@ module _ (runs : RunLaws) (h : Hierarchy) (program : Program) (accepted : IsAcce
         )
 
     pub complete : (found_from h program budget (start slots d)).finished ≡ true → (s : Structure) (n : ℕ) → SolvesDescription h program d s n →
-      (a : Answer) × Has (found_from h program budget (start slots d)).answers a × SubsumesAt h a.closed.graph (node_of a.closed 0) s n
+        (a : Answer) × Has (found_from h program budget (start slots d)).answers a × SubsumesAt h a.closed.graph (node_of a.closed 0) s n
     complete fin s n (root, describes) =
         let sat : Satisfies (wordless h program) s sense (start slots d) [] = record {
           fulfils = record { into = λ a low. root.node; holds = λ x k. absurd k };
@@ -137,7 +137,7 @@ module _ (runs : RunLaws) (h : Hierarchy) (program : Program) (accepted : IsAcce
         }
 
     complete_goal : (found_from h program budget (start_goal slots g)).finished ≡ true → (s : Structure) (assign : ℕ → ℕ) → SolvesGoal h program g s assign →
-      (a : Answer) × Has (found_from h program budget (start_goal slots g)).answers a × SubsumesGoal h a s assign
+        (a : Answer) × Has (found_from h program budget (start_goal slots g)).answers a × SubsumesGoal h a s assign
     complete_goal fin s assign solves =
         let sat : Satisfies (wordless h program) s sense (start_goal slots g) [] = record {
           fulfils = record { into = λ a low. solves.model.some_node; holds = λ x k. absurd k };

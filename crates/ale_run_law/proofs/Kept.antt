@@ -6,6 +6,7 @@ use Rattle.ale_graph.specs.Structures.{Structure, IsStructure, count}
 use Rattle.ale_graph.specs.Morphisms.{IsMorphismAside}
 use Rattle.ale_graph.specs.Closure.{node_of}
 use Rattle.ale_graph.proofs.Lists.{has_map}
+use Rattle.ale_engine.proofs.Lists.{in_map}
 use Rattle.ale_logic.specs.Descriptions.{Description, Describes, FitsDescription}
 use Rattle.ale_logic.specs.Programs.{Element, cat, cats, derived, sem_head, member, tail, Program}
 use Rattle.ale_logic.specs.Solutions.{SolvesDescription}
@@ -14,10 +15,11 @@ use Rattle.ale_logic.specs.States.{bound, env_at, State}
 use Rattle.ale_logic.specs.Starts.{start}
 use Rattle.ale_logic.specs.Lexicons.{wordless}
 use Rattle.ale_logic.specs.Visits.{Answer}
-use Rattle.ale_logic.specs.Parts.{Extract, renamed}
+use Rattle.ale_logic.specs.Parts.{Extract, renamed, kept_answer}
 use Rattle.ale_logic.specs.WellFormed.{scope_of, FitsRest}
+use Rattle.ale_logic.specs.Steps.{IsAllImposed}
 use Rattle.ale_logic.specs.Runs.{IsAnswer, RunLaws}
-use Rattle.ale_logic.specs.Extending.{HasSoundExtension}
+use Rattle.ale_logic.specs.Extending.{HasSoundExtension, OwesNothing}
 use Rattle.ale_logic.specs.PartLaws.{IsElementBelow, IsPart, IsKeepable, PartLaw}
 use Rattle.ale_logic.specs.Answers.{IsAccepted, SubsumesAt, found_from}
 use Rattle.ale_logic.specs.LexiconLaws.{KeptLaws}
@@ -60,18 +62,24 @@ keepable gr st a is root low = record {
     element : (e : Element) → (x : Element) × Has a.state.rest x × (e ≡ renamed (node_of a.closed) x) → IsElementBelow (count a.closed.graph) e
     element e (x, has, same) = subst (IsElementBelow (count a.closed.graph)) (sym same) (named x (is.is.rest x has))
 
+-- an answer owes nothing, and so does what is kept of it
+pub owes_nothing : (gr : Grammar) (a : Answer) → IsAllImposed gr a → OwesNothing gr.signature gr.program (kept_answer a)
+owes_nothing gr a imposed n k c low at above =
+    let i = imposed n k c low at above in
+    subst (λ z. Has (kept_answer a).imposed (z, k)) i.2 (in_map (λ (p : ℕ × ℕ). (node_of a.closed p.0, p.1)) a.state.imposed (i.0, k) i.1)
+
 module _ (runs : RunLaws) (extract : Extract) (h : Hierarchy) (program : Program) (slots : ℕ) (d : Description) (budget : ℕ) (accepted : IsAccepted h program) (keeps : PartLaw h program extract) (fit : FitsDescription h slots d) where
-  arrived : (a : Answer) → Has (found_from h program budget (start slots d)).answers a → Came (wordless h program) (start slots d) a
+  pub arrived : (a : Answer) → Has (found_from h program budget (start slots d)).answers a → Came (wordless h program) (start slots d) a
   arrived a has = answers.came runs h program accepted (start slots d) (description_starts h slots d fit) (tt, tt) budget a has
 
-  part_of : (a : Answer) → Has (found_from h program budget (start slots d)).answers a → IsPart h program 0 a (extract 0 a)
+  pub part_of : (a : Answer) → Has (found_from h program budget (start slots d)).answers a → IsPart h program 0 a (extract 0 a)
   part_of a has =
       let c = arrived a has in
       let next = c.is.next in
       keeps 0 a (keepable (wordless h program) (start slots d) a c.is 0 (omega arith))
 
   sound : (a : Answer) → Has (found_from h program budget (start slots d)).answers a → (s : Structure) (to : ℕ → ℕ) → IsStructure h s → IsMorphismAside h (extract 0 a).kept.graph s to →
-    HasSoundExtension h program (extract 0 a).kept s to (λ t. Describes h t d (to (extract 0 a).root))
+      HasSoundExtension h program (extract 0 a).kept s to (λ t. Describes h t d (to (extract 0 a).root))
   sound a has s to str m =
       let c = arrived a has in
       let part = part_of a has in
@@ -89,7 +97,7 @@ module _ (runs : RunLaws) (extract : Extract) (h : Hierarchy) (program : Program
       }
 
   complete : (found_from h program budget (start slots d)).finished ≡ true → (s : Structure) (n : ℕ) → SolvesDescription h program d s n →
-    (a : Answer) × Has (found_from h program budget (start slots d)).answers a × SubsumesAt h (extract 0 a).kept.graph (extract 0 a).root s n
+      (a : Answer) × Has (found_from h program budget (start slots d)).answers a × SubsumesAt h (extract 0 a).kept.graph (extract 0 a).root s n
   complete fin s n solves =
       let r = answers.complete runs h program accepted slots d budget fit fin s n solves in
       let part = part_of r.0 r.1 in

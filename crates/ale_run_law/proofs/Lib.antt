@@ -3,5 +3,7 @@ pub mod Enough
 pub mod First
 pub mod Kept
 pub mod LexiconBudgets
+pub mod Modelled
 pub mod Rises
 pub mod Runs
+pub mod Whole

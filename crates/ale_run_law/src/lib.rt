@@ -3,4 +3,6 @@
 
 mod laws;
 
-pub use laws::{enough_law, lexicon_budget_law};
+pub use laws::{
+    description_law, enough_law, goal_law, kept_law, lexicon_budget_law, model_law, run_law,
+};

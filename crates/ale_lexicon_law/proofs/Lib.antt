@@ -1,0 +1,4 @@
+pub mod Levels
+pub mod Lexica
+pub mod RuleStart
+pub mod Rules

@@ -1,0 +1,4 @@
+pub mod Grammars
+pub mod Premises
+pub mod Sample
+pub mod Worked
