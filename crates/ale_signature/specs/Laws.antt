@@ -1,14 +1,14 @@
 -- The laws of signatures: what is declared is well numbered, what is accepted obeys what the logic asks of a
 -- hierarchy, the functions tell the relations that define them, and some declarations with a feature are accepted.
 -- Source: Carpenter 1992, chapters 2 and 6.
-use Rattle.std.specs.Prelude.{◌≡◌, ◌↔◌, ℕ, suc, ◌<◌, ◌≤◌, true, Some, None, List, length}
+use Rattle.std.specs.Prelude.{◌≡◌, ◌↔◌, ℕ, suc, ◌<◌, ◌≤◌, true, false, Some, None, List, length}
 use Rattle.ale_relation.specs.Paths.{Leads}
 use Rattle.ale_declared.specs.Lists.{Has, sum_over}
 use Rattle.ale_declared.specs.Declarations.{Declared, declared}
 use Rattle.ale_declared.specs.declared.decl.Mention.{Mention}
 use Rattle.ale_declared.specs.declared.decl.SigDecl.{SigDecl}
 use Rattle.ale_hierarchy.specs.Limits.{most_types}
-use Rattle.ale_hierarchy.specs.Order.{IsAbove, IsJoin, Applies, IsRestriction, Introduces, leads_through, is_above, join, approp, intro, size, if_there, all_features, hierarchy}
+use Rattle.ale_hierarchy.specs.Order.{IsAbove, IsJoin, Applies, IsRestriction, Introduces, leads_through, is_above, join, approp, intro, is_ext, size, if_there, all_features, hierarchy}
 use Rattle.ale_hierarchy.specs.Accepted.{IsAccepted, restriction_edges}
 use Rattle.ale_declared.specs.Numbering.{IsWellNumbered}
 use Rattle.ale_hierarchy.specs.Hierarchy.{IsLawful}
@@ -17,10 +17,11 @@ use Rattle.ale_hierarchy.specs.Hierarchy.{IsLawful}
 abbrev pub SignatureLaw : Type 0
 SignatureLaw = (d : Declared) → IsWellNumbered d → IsAccepted d → IsLawful (hierarchy d)
 
--- some declarations with a feature are accepted
+-- some declarations with a feature are accepted, where no feature is appropriate to `bot`, which isn't extensional
 abbrev pub SomeIsAccepted : Type 0
 SomeIsAccepted =
     (decls : List SigDecl) × IsWellNumbered (declared decls) × IsAccepted (declared decls) × (0 < length (declared decls).features)
+    × ((f : ℕ) → approp (declared decls) f 0 ≡ None) × (is_ext (declared decls) 0 ≡ false)
 
 -- edges never lead back to where they started
 abbrev pub NeverLeadsBack : List (ℕ × ℕ) → Type 0
