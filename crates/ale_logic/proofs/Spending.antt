@@ -1,8 +1,8 @@
 -- What a budget is to a search, by induction on it.
-use Rattle.std.proofs.Common.{◌≡◌, ℕ, zero, suc, ◌≤◌, true, false, List, [], ◌∷◌, ◌++◌, refl, ap, arith}
+use Rattle.std.proofs.Common.{◌≡◌, ℕ, zero, suc, ◌<◌, ◌≤◌, true, false, List, [], ◌∷◌, ◌++◌, refl, sym, ap, ◌∙◌, arith}
 use Rattle.ale_hierarchy.specs.Hierarchy.{Hierarchy}
 use Rattle.ale_logic.specs.States.{State}
-use Rattle.ale_logic.specs.Visits.{Visit, fails, answers, goes, visit, visited, answered, after, search, behind, waiting_after}
+use Rattle.ale_logic.specs.Visits.{Visit, Outcome, fails, answers, goes, visit, visited, answered, after, search, behind, waiting_after}
 use Rattle.ale_logic.specs.Searches.{IsWaiting, BudgetLaw}
 
 within : (h : Hierarchy) (budget : ℕ) (sts : List State) → (search h budget sts).visits ≤ budget
@@ -16,16 +16,33 @@ within h (suc left) (st ∷ waiting) = go (within h left) (visit h st)
     go ih (answers c) = let r = ih waiting in omega arith
     go ih (goes ks) = let r = ih (ks ++ waiting) in omega arith
 
-ended : (h : Hierarchy) (budget : ℕ) (sts : List State) → (search h budget sts).finished ≡ true → waiting_after h budget sts ≡ []
+-- a visit is counted, and whether the search ends is left to what comes
+counted : (go : List State → Outcome) (waiting : List State) (v : Visit) → (after go waiting v).visits ≡ suc (go (behind waiting v)).visits
+counted go waiting fails = refl
+counted go waiting (answers c) = refl
+counted go waiting (goes ks) = refl
+
+left_open : (go : List State → Outcome) (waiting : List State) (v : Visit) → (after go waiting v).finished ≡ (go (behind waiting v)).finished
+left_open go waiting fails = refl
+left_open go waiting (answers c) = refl
+left_open go waiting (goes ks) = refl
+
+made : (h : Hierarchy) (budget : ℕ) (sts : List State) (n : ℕ) → n < (search h budget sts).visits → IsWaiting (waiting_after h n sts)
+made h zero [] n less = absurd (omega arith)
+made h zero (st ∷ waiting) n less = absurd (omega arith)
+made h (suc left) [] n less = absurd (omega arith)
+made h (suc left) (st ∷ waiting) zero less = record { first = st; others = waiting; are = refl }
+made h (suc left) (st ∷ waiting) (suc n) less =
+    let one : (after (search h left) waiting (visit h st)).visits ≡ suc (search h left (behind waiting (visit h st))).visits = counted (search h left) waiting (visit h st) in
+    made h left (behind waiting (visit h st)) n (omega arith)
+
+ended : (h : Hierarchy) (budget : ℕ) (sts : List State) → (search h budget sts).finished ≡ true → waiting_after h (search h budget sts).visits sts ≡ []
 ended h zero [] fin = refl
 ended h zero (st ∷ waiting) fin = absurd cc
 ended h (suc left) [] fin = refl
-ended h (suc left) (st ∷ waiting) fin = go (ended h left) (visit h st) fin
-  where
-    go : ((ys : List State) → (search h left ys).finished ≡ true → waiting_after h left ys ≡ []) → (v : Visit) → (after (search h left) waiting v).finished ≡ true → waiting_after h left (behind waiting v) ≡ []
-    go ih fails fin = ih waiting fin
-    go ih (answers c) fin = ih waiting fin
-    go ih (goes ks) fin = ih (ks ++ waiting) fin
+ended h (suc left) (st ∷ waiting) fin =
+    ap (λ k. waiting_after h k (st ∷ waiting)) (counted (search h left) waiting (visit h st))
+    ∙ ended h left (behind waiting (visit h st)) (sym (left_open (search h left) waiting (visit h st)) ∙ fin)
 
 -- the budget is used up, and some state waits
 abbrev IsSpent : Hierarchy → ℕ → List State → Type 0
@@ -58,6 +75,7 @@ settled h (suc left) (st ∷ waiting) fin (suc larger) le = go (settled h left) 
 pub budget_law : (h : Hierarchy) (budget : ℕ) (sts : List State) → BudgetLaw h budget sts
 budget_law h budget sts = record {
   within = within h budget sts;
+  made = made h budget sts;
   ended = ended h budget sts;
   spent = spent h budget sts;
   settled = settled h budget sts;

@@ -57,10 +57,12 @@ pub record IsWaiting (waiting : List State) : Type 0 where
   pub others : List State
   pub are : waiting ≡ first ∷ others
 
--- The search ends within its budget exactly where nothing waits after as many visits.
+-- Each visit is of a state that waits. A search ends after the visit after which nothing waits, and so makes as
+-- many visits as it takes until then; a search that does not end makes as many as its budget, and a state waits.
 pub record BudgetLaw (h : Hierarchy) (budget : ℕ) (first : List State) : Type 0 where
   pub within : (search h budget first).visits ≤ budget
-  pub ended : (search h budget first).finished ≡ true → waiting_after h budget first ≡ []
+  pub made : (n : ℕ) → n < (search h budget first).visits → IsWaiting (waiting_after h n first)
+  pub ended : (search h budget first).finished ≡ true → waiting_after h (search h budget first).visits first ≡ []
   pub spent : (search h budget first).finished ≡ false → ((search h budget first).visits ≡ budget) × IsWaiting (waiting_after h budget first)
   -- a larger budget changes nothing of a search that has ended
   pub settled : (search h budget first).finished ≡ true → (larger : ℕ) → budget ≤ larger → search h larger first ≡ search h budget first
