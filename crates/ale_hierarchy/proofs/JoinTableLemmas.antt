@@ -1,11 +1,10 @@
 -- The join of two types by way of the types directly below the first: each common subtype is below a candidate,
 -- a join of one of those with the second.
-use Rattle.std.proofs.Common.{◌≡◌, sym, ap, ◌∙◌, subst, refl, ℕ, zero, suc, ◌+◌, ◌<◌, ◌≤◌, arith, cond, Bool, true, false, get_or, ◌++◌, append_assoc, Option, Some, None, List, [], ◌∷◌, length, inl, inr, eqb}
+use Rattle.std.proofs.Common.{◌≡◌, sym, ap, ◌∙◌, subst, refl, ℕ, ◌+◌, ◌<◌, arith, Bool, true, false, get_or, ◌++◌, append_assoc, Option, Some, None, List, [], ◌∷◌, length, inl, inr, eqb}
 use Rattle.std.specs.List.{filter_map, cons_option}
 use Rattle.std.proofs.lemmas.Bool.{both_ways, cases_eq, false≢true, eqb-true}
 use Rattle.ale_relation.specs.Has.{Has}
 use Rattle.ale_relation.specs.Paths.{Reaches, here}
-use Rattle.ale_relation.specs.Rows.{count_below}
 use Rattle.ale_declared.specs.Lists.{first, every}
 use Rattle.ale_declared.specs.Declarations.{Declared}
 use Rattle.ale_hierarchy.specs.Order.{IsAbove, IsJoin, is_above, join, rank}

@@ -1,5 +1,5 @@
 -- Paths along edges: the test `leads_through` finds exactly those whose inner nodes are below its bound.
-use Rattle.std.proofs.Common.{◌≡◌, sym, ap, subst, refl, ℕ, zero, suc, ◌<◌, true, eqb, List, [], ◌∷◌, length, inl, inr, ◌⊎◌, arith, ◌&&◌}
+use Rattle.std.proofs.Common.{◌≡◌, sym, ap, subst, ℕ, zero, suc, ◌<◌, true, eqb, List, [], ◌∷◌, length, inl, inr, ◌⊎◌, arith, ◌&&◌}
 use Rattle.std.proofs.lemmas.Bool.{and_parts, and_from, or_cases, or_left, or_right, eqb-true, eq-eqb, false≢true, false_from_ne_true}
 use Rattle.std.specs.Bool.{Decides}
 use Rattle.std.specs.List.{filter}
