@@ -3,6 +3,8 @@
 //! whole file and write all of a text.
 #![tactic(auto)]
 
+#[cfg(test)]
+mod edge_tests;
 pub mod fault;
 pub mod held_file;
 pub mod input;
@@ -12,6 +14,7 @@ pub mod output;
 pub mod reading;
 pub mod real_files;
 pub mod real_sink;
+pub mod system;
 pub mod writing;
 
 pub use fault::Failed;

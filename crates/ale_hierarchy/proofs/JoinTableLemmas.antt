@@ -1,18 +1,17 @@
 -- The join of two types by way of the types directly below the first: each common subtype is below a candidate,
 -- a join of one of those with the second.
-use Rattle.std.proofs.Common.{◌≡◌, sym, ap, ◌∙◌, subst, refl, ℕ, zero, suc, ◌+◌, ◌<◌, ◌≤◌, arith, cond, Bool, true, false, get_or, ◌++◌, append_assoc, Option, Some, None, List, [], ◌∷◌, length, inl, inr, eqb}
+use Rattle.std.proofs.Common.{◌≡◌, sym, ap, ◌∙◌, subst, refl, ℕ, ◌+◌, ◌<◌, arith, Bool, true, false, get_or, ◌++◌, append_assoc, Option, Some, None, List, [], ◌∷◌, length, inl, inr, eqb}
 use Rattle.std.specs.List.{filter_map, cons_option}
 use Rattle.std.proofs.lemmas.Bool.{both_ways, cases_eq, false≢true, eqb-true}
 use Rattle.ale_relation.specs.Has.{Has}
 use Rattle.ale_relation.specs.Paths.{Reaches, here}
-use Rattle.ale_relation.specs.Rows.{count_below}
 use Rattle.ale_declared.specs.Lists.{first, every}
 use Rattle.ale_declared.specs.Declarations.{Declared}
 use Rattle.ale_hierarchy.specs.Order.{IsAbove, IsJoin, is_above, join, rank}
 use Rattle.ale_hierarchy.specs.Stages.{IsOrdered, IsFilled, entry, directly_below, HasLeast, are_below, join_row, join_rows}
 use Rattle.ale_declared.proofs.ListLemmas.{Has-filter_map, filter_map_has, first_has, first_none, every_at, every_from}
 use Rattle.ale_hierarchy.proofs.PathLemmas.{Leads_apart, Reaches-edge}
-use Rattle.ale_hierarchy.proofs.OrderLemmas.{rank-less, rank_is, IsAbove-trans, IsAbove-antisym, IsAbove_inside, is_above_to, is_above_from}
+use Rattle.ale_hierarchy.proofs.OrderLemmas.{rank-less, IsAbove-trans, IsAbove-antisym, IsAbove_inside, is_above_to, is_above_from}
 use Rattle.ale_hierarchy.proofs.JoinLemmas.{HasJoins, join_to, join_from, none_from, join-above, join-comm}
 use Rattle.ale_hierarchy.proofs.LoopLemmas.{are_below-from}
 use Rattle.ale_hierarchy.proofs.TabulatedLemmas.{length-tabulated, get_or-tabulated, tabulated-ext, get_or-default}
@@ -170,21 +169,6 @@ below_next P b before at k less =
       | inl same ↦ subst P (sym same) at
       | inr apart ↦ before k (omega arith)
     ]
-
-count_below-most : (test : ℕ → Bool) (n : ℕ) → count_below test n ≤ n
-count_below-most test zero = omega arith
-count_below-most test (suc n) =
-    let rest : count_below test n ≤ n = count_below-most test n in
-    let one : cond (test n) 1 0 ≤ 1 = at_most_one (test n) in
-    omega arith
-  where
-    at_most_one : (t : Bool) → cond t 1 0 ≤ 1
-    at_most_one true = omega arith
-    at_most_one false = omega arith
-
--- a rank is at most the number of all types
-pub rank-most : (d : Declared) (t : ℕ) → rank d t ≤ length d.types
-rank-most d t = let most : count_below (λ u. is_above d t u) (length d.types) ≤ length d.types = count_below-most (λ u. is_above d t u) (length d.types) in rw (rank_is d t) most
 
 -- the rows of all types are filled
 pub join_rows-filled : (d : Declared) (rows : List (List (Option ℕ))) → length rows ≡ length d.types → ((t : ℕ) → t < length d.types → IsFilled d rows t) → rows ≡ join_rows d

@@ -15,7 +15,8 @@ use Rattle.ale_hierarchy.specs.Faults.{lacks_join}
 use Rattle.ale_hierarchy.specs.Refusals.{LacksJoin}
 use Rattle.ale_hierarchy.specs.Stages.{IsOrdered, tabulated}
 use Rattle.ale_hierarchy.specs.Ranks.{IsByRank, IsRanked}
-use Rattle.ale_hierarchy.proofs.LoopLemmas.{are_below-at, are_below-from, Has-get_or}
+use Rattle.ale_hierarchy.proofs.LoopLemmas.{are_below-at, are_below-from}
+use Rattle.ale_declared.proofs.TopLemmas.{Has-get_or}
 use Rattle.ale_hierarchy.proofs.TabulatedLemmas.{length-tabulated, get_or-tabulated}
 use Rattle.ale_hierarchy.proofs.OrderLemmas.{rank-less, rank-le-types, IsAbove_inside, is_above_to, is_above_from}
 use Rattle.ale_hierarchy.proofs.FaultTests.{join_decides, refuting}

@@ -3,6 +3,7 @@ use Rattle.std.proofs.Common.{◌≡◌, sym, ap, subst, refl, ℕ, zero, suc, �
 use Rattle.std.specs.Prelude.{nat_lt, IfSome, IsErrOf, Err}
 use Rattle.std.proofs.lemmas.Bool.{and_parts, and_from, ltb-true, lt-ltb}
 use Rattle.ale_relation.specs.Has.{Has}
+use Rattle.ale_declared.proofs.TopLemmas.{Has-get_or}
 use Rattle.ale_hierarchy.specs.Stages.{are_below}
 
 -- the rest of a list begins with the next element
@@ -10,11 +11,6 @@ pub drop_item : {A : Type 0} (xs : List A) (i : ℕ) (x : A) → i < length xs �
 drop_item xs i x below e = rw (add-one, drop-cons xs i x below, ← e) refl
 
 -- what is at a place is in the list
-pub Has-get_or : {A : Type 0} (xs : List A) (i : ℕ) (z : A) → i < length xs → Has xs (get_or xs i z)
-Has-get_or [] i z below = absurd (omega arith)
-Has-get_or (x ∷ xs) zero z below = inl refl
-Has-get_or (x ∷ xs) (suc i) z below = inr (Has-get_or xs i z (omega arith))
-
 pub Has_item : {A : Type 0} (xs : List A) (i : ℕ) (x : A) → i < length xs → x ≡ get_or xs i x → Has xs x
 Has_item xs i x below e = subst (λ z. Has xs z) (sym e) (Has-get_or xs i x below)
 

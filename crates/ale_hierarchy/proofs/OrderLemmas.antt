@@ -12,7 +12,8 @@ use Rattle.ale_declared.specs.Declarations.{Declared}
 use Rattle.ale_hierarchy.specs.Order.{IsAbove, is_above, leads_through, rank, all_types}
 use Rattle.ale_declared.specs.Numbering.{IsWellNumbered}
 use Rattle.ale_declared.proofs.ListLemmas.{upto_has, length-filter-lt, length-filter-le, length-filter-upto-le, length-filter-upto}
-use Rattle.ale_hierarchy.proofs.PathLemmas.{HasNoCycle, Reaches-trans, Reaches-edge, Reaches-leads, Reaches_cases, Reaches-antisym, Reaches_inside, Reaches_from_inside, Leads_apart, Leads_through, Through_leads, leads_through_to, leads_through_from}
+use Rattle.ale_relation.proofs.Paths.{reaches_trans, reaches_from_leads, reaches_split}
+use Rattle.ale_hierarchy.proofs.PathLemmas.{HasNoCycle, Reaches-edge, Reaches-antisym, Reaches_inside, Reaches_from_inside, Leads_apart, Leads_through, Through_leads, leads_through_to, leads_through_from}
 
 -- each type is above itself
 pub IsAbove-self : (d : Declared) (a : ℕ) → IsAbove d a a
@@ -20,7 +21,7 @@ IsAbove-self d a = here a
 
 -- what is above a type that is above another
 pub IsAbove-trans : (d : Declared) (a b c : ℕ) → IsAbove d a b → IsAbove d b c → IsAbove d a c
-IsAbove-trans d a b c r s = Reaches-trans d.edges a b c r s
+IsAbove-trans d a b c r s = reaches_trans d.edges a b c r s
 
 -- without cycles, two types above each other are one
 pub IsAbove-antisym : (d : Declared) (a b : ℕ) → HasNoCycle d.edges → IsAbove d a b → IsAbove d b a → a ≡ b
@@ -40,14 +41,14 @@ unfolding is_above
 is_above_to d a b h =
     elim (or_cases (eqb a b) (leads_through d.edges (length d.types) a b) h) [
       | inl e ↦ subst (λ z. IsAbove d a z) (eqb-true a b e) (here a)
-      | inr e ↦ Reaches-leads d.edges a b (Leads_through d.edges (length d.types) a b (leads_through_to d.edges (length d.types) a b e))
+      | inr e ↦ reaches_from_leads d.edges a b (Leads_through d.edges (length d.types) a b (leads_through_to d.edges (length d.types) a b e))
     ]
 
 -- where a is above b, the function says so
 pub is_above_from : (d : Declared) (a b : ℕ) → IsWellNumbered d → IsAbove d a b → is_above d a b ≡ true
 unfolding is_above
 is_above_from d a b w r =
-    elim (Reaches_cases d.edges a b r) [
+    elim (reaches_split d.edges a b r) [
       | inl e ↦ or_left (eqb a b) (leads_through d.edges (length d.types) a b) (eq-eqb a b e)
       | inr l ↦
           or_right (eqb a b) (leads_through d.edges (length d.types) a b)

@@ -1,10 +1,11 @@
 -- Paths along edges: the test `leads_through` finds exactly those whose inner nodes are below its bound.
-use Rattle.std.proofs.Common.{◌≡◌, sym, ap, subst, refl, ℕ, zero, suc, ◌<◌, true, eqb, List, [], ◌∷◌, length, inl, inr, ◌⊎◌, arith, ◌&&◌}
+use Rattle.std.proofs.Common.{◌≡◌, sym, ap, subst, ℕ, zero, suc, ◌<◌, true, eqb, List, [], ◌∷◌, length, inl, inr, ◌⊎◌, arith, ◌&&◌}
 use Rattle.std.proofs.lemmas.Bool.{and_parts, and_from, or_cases, or_left, or_right, eqb-true, eq-eqb, false≢true, false_from_ne_true}
 use Rattle.std.specs.Bool.{Decides}
 use Rattle.std.specs.List.{filter}
 use Rattle.ale_relation.specs.Has.{Has}
 use Rattle.ale_relation.specs.Paths.{Reaches, here, along, Leads}
+use Rattle.ale_relation.proofs.Paths.{reaches_trans, reaches_from_leads, reaches_split}
 use Rattle.ale_declared.specs.Lists.{upto}
 use Rattle.ale_declared.proofs.ListLemmas.{upto_has, length-filter-lt}
 use Rattle.ale_hierarchy.specs.Order.{is_edge, leads_through}
@@ -17,36 +18,22 @@ HasNoCycle edges = (t : ℕ) → Leads edges t t → ⊥
 abbrev pub EndsBelow : List (ℕ × ℕ) → ℕ → Type 0
 EndsBelow edges n = (a b : ℕ) → Has edges (a, b) → (a < n) × (b < n)
 
--- a path on from the end of a path
-pub Reaches-trans : (edges : List (ℕ × ℕ)) (a b c : ℕ) → Reaches edges a b → Reaches edges b c → Reaches edges a c
-Reaches-trans edges a b c (here _) s = s
-Reaches-trans edges a b c (along _ m _ e r) s = along a m c e (Reaches-trans edges m b c r s)
-
 -- a path of one edge
 pub Reaches-edge : (edges : List (ℕ × ℕ)) (a b : ℕ) → Has edges (a, b) → Reaches edges a b
 Reaches-edge edges a b e = along a b b e (here b)
 
--- a path of one or more edges is a path
-pub Reaches-leads : (edges : List (ℕ × ℕ)) (a b : ℕ) → Leads edges a b → Reaches edges a b
-Reaches-leads edges a b l = along a l.0 b l.1 l.2
-
 -- a path on from the end of a path of one or more edges
 pub Leads-reaches : (edges : List (ℕ × ℕ)) (a b c : ℕ) → Leads edges a b → Reaches edges b c → Leads edges a c
-Leads-reaches edges a b c l r = (l.0, l.1, Reaches-trans edges l.0 b c l.2 r)
-
--- a path is empty or has an edge
-pub Reaches_cases : (edges : List (ℕ × ℕ)) (a b : ℕ) → Reaches edges a b → (a ≡ b) ⊎ Leads edges a b
-Reaches_cases edges a b (here _) = inl refl
-Reaches_cases edges a b (along _ m _ e r) = inr (m, e, r)
+Leads-reaches edges a b c l r = (l.0, l.1, reaches_trans edges l.0 b c l.2 r)
 
 -- a path leads from one of two different nodes to the other by an edge
 pub Leads_apart : (edges : List (ℕ × ℕ)) (a b : ℕ) → Reaches edges a b → (a ≡ b → ⊥) → Leads edges a b
-Leads_apart edges a b r apart = elim (Reaches_cases edges a b r) [ inl e ↦ absurd (apart e) | inr l ↦ l ]
+Leads_apart edges a b r apart = elim (reaches_split edges a b r) [ inl e ↦ absurd (apart e) | inr l ↦ l ]
 
 -- without cycles two nodes that lead to each other are one
 pub Reaches-antisym : (edges : List (ℕ × ℕ)) (a b : ℕ) → HasNoCycle edges → Reaches edges a b → Reaches edges b a → a ≡ b
 Reaches-antisym edges a b free r s =
-    elim (Reaches_cases edges a b r) [ inl e ↦ e | inr l ↦ absurd (free a (Leads-reaches edges a b a l s)) ]
+    elim (reaches_split edges a b r) [ inl e ↦ e | inr l ↦ absurd (free a (Leads-reaches edges a b a l s)) ]
 
 -- a path ends below n where it begins there
 pub Reaches_inside : (edges : List (ℕ × ℕ)) (n a b : ℕ) → EndsBelow edges n → Reaches edges a b → a < n → b < n
@@ -140,7 +127,7 @@ leads_through_from edges (suc m) a b p =
 -- a path below some bound is a path
 pub Leads_through : (edges : List (ℕ × ℕ)) (m a b : ℕ) → Through edges m a b → Leads edges a b
 Leads_through edges m a b (edge _ _ e) = (b, e, here b)
-Leads_through edges m a b (step _ k _ h e p) = (k, e, Reaches-leads edges k b (Leads_through edges m k b p))
+Leads_through edges m a b (step _ k _ h e p) = (k, e, reaches_from_leads edges k b (Leads_through edges m k b p))
 
 -- where the ends of all edges are below n, a path is one below n
 pub Through_leads : (edges : List (ℕ × ℕ)) (n a b : ℕ) → EndsBelow edges n → Leads edges a b → Through edges n a b
@@ -167,7 +154,7 @@ led-less edges n a b ends free e =
     length-filter-lt (λ u. leads_through edges n b u) (λ u. leads_through edges n a u) (upto n) b
     (λ u h.
     let on = (leads_through-Decides edges n b u ends).0 h in
-    (leads_through-Decides edges n a u ends).1 (b, e, Reaches-leads edges b u on))
+    (leads_through-Decides edges n a u ends).1 (b, e, reaches_from_leads edges b u on))
     (upto_has n b (ends a b e).1)
     (false_from_ne_true (leads_through edges n b b) (λ h. free b ((leads_through-Decides edges n b b ends).0 h)))
     ((leads_through-Decides edges n a b ends).1 (b, e, here b))

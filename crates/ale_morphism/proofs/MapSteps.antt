@@ -5,7 +5,7 @@ use Rattle.ale_hierarchy.specs.Hierarchy.{Hierarchy, Above}
 use Rattle.ale_graph.specs.Structures.{Structure, count, type_of, value_of, is_formed}
 use Rattle.ale_graph.specs.Morphisms.{IsMorphism}
 use Rattle.ale_graph.specs.Universal.{Agree}
-use Rattle.ale_morphism.specs.MorphismTest.{image}
+use Rattle.ale_morphism.specs.Maps.{image}
 use Rattle.ale_morphism.specs.Matched.{IsMatched}
 use Rattle.ale_morphism.specs.Walking.{target, targets}
 use Rattle.ale_graph.proofs.Structures.{value_from, value_inside}

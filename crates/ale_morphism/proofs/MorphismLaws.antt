@@ -1,11 +1,15 @@
 -- Laws of morphisms.
-use Rattle.std.proofs.Common.{◌≡◌, ℕ, zero, suc, ◌<◌, List, [], ◌∷◌, ◌⊎◌, inl, inr, refl, sym, ap, ◌∙◌, subst, arith, Option, Some, None, option_map}
+use Rattle.std.proofs.Common.{◌≡◌, ℕ, zero, suc, ◌<◌, true, List, [], ◌∷◌, ◌⊎◌, inl, inr, refl, sym, ap, ◌∙◌, subst, arith, Option, Some, None, option_map}
 use Rattle.ale_declared.specs.Lists.{Has}
 use Rattle.ale_hierarchy.specs.Hierarchy.{Hierarchy, Above, IsLawful}
-use Rattle.ale_graph.specs.Structures.{Structure, count, type_of, value_of, root_at}
+use Rattle.ale_graph.specs.Structures.{Structure, count, type_of, value_of, root_at, is_formed, IsApart, IsStructure}
 use Rattle.ale_graph.specs.Morphisms.{IsMorphism}
 use Rattle.ale_morphism.specs.Rooted.{FromRoots, IsRooted}
-use Rattle.ale_morphism.specs.MorphismLaws.{RootsDetermine, Identity, Compose, ComposePairs, NotTransitive, Variants}
+use Rattle.ale_morphism.specs.MorphismLaws.{RootsDetermine, Identity, Compose, ComposePairs, IsBotPlain, NotTransitive, SomeBotIsPlain, Variants}
+use Rattle.ale_hierarchy.specs.Order.{hierarchy}
+use Rattle.ale_signature.proofs.Example.{some_is_accepted}
+use Rattle.std.proofs.lemmas.Bool.{false≢true}
+use Rattle.std.specs.Prelude.{IsTrue}
 use Rattle.ale_graph.proofs.Lists.{some_one, none_some}
 use Rattle.ale_graph.proofs.Entries.{same_or_not}
 
@@ -51,31 +55,65 @@ no_value differ zero x m e = none_some e
 no_value differ (suc zero) x m e = none_some e
 no_value differ (suc (suc n)) x m e = none_some e
 
-pub not_transitive : NotTransitive
-not_transitive h law = (twin ((0, 1) ∷ []), twin [], single, record { map = λ n. n; is = forget }, record { map = λ n. 0; is = join }, λ sub. never sub.map sub.is)
-  where
-    types : (n : ℕ) → n < 2 → type_of (twin []) n ≡ 0
-    types zero lt = refl
-    types (suc zero) lt = refl
-    types (suc (suc n)) lt = absurd (omega arith)
+-- nodes of a plain type without values are a structure
+plain_structure : (h : Hierarchy) (s : Structure) → IsLawful h → IsBotPlain h → IsTrue (is_formed s) → ((n : ℕ) → type_of s n ≡ 0) → ((n x m : ℕ) → value_of s n x ≡ Some m → ⊥) → IsApart s → IsStructure h s
+plain_structure h s law plain formed bots no_values apart = record {
+  formed = formed;
+  total = record {
+    types = λ n lt. subst (λ z. z < h.types) (sym (bots n)) law.some_type;
+    there = λ n f r lt e. absurd (none_some (sym (plain.no_features f) ∙ subst (λ z. h.approp f z ≡ Some r) (bots n) e));
+    only = λ n f m e. absurd (no_values n f m e);
+  };
+  extensional = λ a b lt-a lt-b same ext values. absurd (false≢true (sym plain.not_ext ∙ subst (λ z. h.is_ext z ≡ true) (bots a) ext));
+  apart = apart;
+}
 
+twin_bots : (differ : List (ℕ × ℕ)) (n : ℕ) → type_of (twin differ) n ≡ 0
+twin_bots differ zero = refl
+twin_bots differ (suc zero) = refl
+twin_bots differ (suc (suc n)) = refl
+
+single_bots : (n : ℕ) → type_of single n ≡ 0
+single_bots zero = refl
+single_bots (suc n) = refl
+
+single_no_value : (n x m : ℕ) → value_of single n x ≡ Some m → ⊥
+single_no_value zero x m e = none_some e
+single_no_value (suc n) x m e = none_some e
+
+-- the pair is of two nodes
+twin_apart : (a b : ℕ) → Has (twin ((0, 1) ∷ [])).differ (a, b) → a ≡ b → ⊥
+twin_apart a b (inl e) q =
+    let first : a ≡ 0 = ap (λ (z : ℕ × ℕ). z.0) e in
+    let second : b ≡ 1 = ap (λ (z : ℕ × ℕ). z.1) e in
+    absurd (omega arith)
+twin_apart a b (inr p) q = absurd p
+
+pub not_transitive : NotTransitive
+not_transitive h law = (
+  twin ((0, 1) ∷ []),
+  twin [],
+  single,
+  record { map = λ n. n; is = forget },
+  record { map = λ n. 0; is = join },
+  (λ sub. never sub.map sub.is),
+  λ plain. (
+    plain_structure h (twin ((0, 1) ∷ [])) law plain refl (twin_bots ((0, 1) ∷ [])) (no_value ((0, 1) ∷ [])) twin_apart,
+    plain_structure h (twin []) law plain refl (twin_bots []) (no_value []) (λ a b p. absurd p),
+    plain_structure h single law plain refl single_bots single_no_value (λ a b p. absurd p),
+  ),
+)
+  where
     forget : IsMorphism h (twin ((0, 1) ∷ [])) (twin []) (λ n. n)
     forget = record {
       aside = record {
         into = λ n lt. lt;
         types = λ n lt. law.along_self (type_of (twin []) n);
         values = λ n x m e. absurd (no_value ((0, 1) ∷ []) n x m e);
-        differs = λ a b p q. apart a b p q;
+        differs = twin_apart;
       };
       roots = λ i n e. e;
     }
-      where
-        apart : (a b : ℕ) → Has (twin ((0, 1) ∷ [])).differ (a, b) → a ≡ b → ⊥
-        apart a b (inl e) q =
-            let first : a ≡ 0 = ap (λ (z : ℕ × ℕ). z.0) e in
-            let second : b ≡ 1 = ap (λ (z : ℕ × ℕ). z.1) e in
-            absurd (omega arith)
-        apart a b (inr p) q = absurd p
 
     roots : (i n : ℕ) → root_at (twin []) i ≡ Some n → root_at single i ≡ Some 0
     roots zero n e = refl
@@ -86,7 +124,7 @@ not_transitive h law = (twin ((0, 1) ∷ []), twin [], single, record { map = λ
     join = record {
       aside = record {
         into = λ n lt. omega arith;
-        types = λ n lt. subst (λ z. Above h z 0) (sym (types n lt)) (law.along_self 0);
+        types = λ n lt. subst (λ z. Above h z 0) (sym (twin_bots [] n)) (law.along_self 0);
         values = λ n x m e. absurd (no_value [] n x m e);
         differs = λ a b p. absurd p;
       };
@@ -95,6 +133,12 @@ not_transitive h law = (twin ((0, 1) ∷ []), twin [], single, record { map = λ
 
     never : (at : ℕ → ℕ) → IsMorphism h (twin ((0, 1) ∷ [])) single at → ⊥
     never at m = m.aside.differs 0 1 (inl refl) (some_one (sym (m.roots 0 0 refl) ∙ m.roots 1 1 refl))
+
+pub some_bot_plain : SomeBotIsPlain
+unfolding hierarchy
+some_bot_plain =
+    let some = some_is_accepted in
+    (some.0, some.2, record { no_features = some.4; not_ext = some.5 })
 
 -- types that are above each other are one
 one_type : (h : Hierarchy) → IsLawful h → (a b : ℕ) → Above h a b → Above h b a → a ≡ b

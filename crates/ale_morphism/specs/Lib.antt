@@ -1,3 +1,4 @@
+pub mod Maps
 pub mod Matched
 pub mod MorphismLaws
 pub mod MorphismTest

@@ -1,9 +1,13 @@
 -- Laws of morphisms: the roots determine them, they compose where differing pairs stay apart, and structures
 -- that subsume each other are alphabetic variants. Source: Carpenter 1992, chapters 2 and 3.
-use Rattle.std.specs.Prelude.{◌≡◌, ◌≢◌, ◌⊎◌, ℕ, ◌<◌, IsTrue, option_map}
+use Rattle.std.specs.Prelude.{◌≡◌, ◌≢◌, ◌⊎◌, ℕ, ◌<◌, false, None, List, IsTrue, option_map}
 use Rattle.ale_declared.specs.Lists.{Has}
+use Rattle.ale_declared.specs.Declarations.{declared}
+use Rattle.ale_declared.specs.declared.decl.SigDecl.{SigDecl}
 use Rattle.ale_hierarchy.specs.Hierarchy.{Hierarchy, IsLawful}
-use Rattle.ale_graph.specs.Structures.{Structure, count, type_of, value_of, root_at, is_formed, IsApart}
+use Rattle.ale_hierarchy.specs.Accepted.{IsAccepted}
+use Rattle.ale_hierarchy.specs.Order.{hierarchy}
+use Rattle.ale_graph.specs.Structures.{Structure, count, type_of, value_of, root_at, is_formed, IsApart, IsStructure}
 use Rattle.ale_graph.specs.Morphisms.{IsMorphism, Subsumes}
 use Rattle.ale_morphism.specs.Rooted.{FromRoots, IsRooted}
 
@@ -36,10 +40,21 @@ abbrev pub ComposePairs : Type 0
 ComposePairs =
     (h : Hierarchy) (s t u : Structure) (f g : ℕ → ℕ) → IsLawful h → IsMorphism h s t f → KeepsPairs s t f → IsMorphism h t u g → IsMorphism h s u (λ n. g (f n))
 
--- without it subsumption is not transitive
+-- no feature is appropriate to the most general type, and its nodes are never identified for their values
+pub record IsBotPlain (h : Hierarchy) : Type 0 where
+  pub no_features : (f : ℕ) → h.approp f 0 ≡ None
+  pub not_ext : h.is_ext 0 ≡ false
+
+-- Without it subsumption is not transitive: where the most general type is plain, not even between total,
+-- extensional structures of the signature.
 abbrev pub NotTransitive : Type 0
 NotTransitive =
     (h : Hierarchy) → IsLawful h → (s : Structure) × (t : Structure) × (u : Structure) × Subsumes h s t × Subsumes h t u × (Subsumes h s u → ⊥)
+    × (IsBotPlain h → IsStructure h s × IsStructure h t × IsStructure h u)
+
+-- and it is plain in some accepted signature
+abbrev pub SomeBotIsPlain : Type 0
+SomeBotIsPlain = (decls : List SigDecl) × IsAccepted (declared decls) × IsBotPlain (hierarchy (declared decls))
 
 -- s and t are alphabetic variants, differing pairs aside: f and g are inverse to each other, and keep types,
 -- values and roots

@@ -1,18 +1,10 @@
--- The test of a morphism: node by node, pair by pair, root by root. Source: subsumption, Carpenter 1992,
--- chapters 2 and 3.
+-- The test of a morphism, as a function: node by node, pair by pair, root by root. It is what the code computes;
+-- what a morphism is stands where structures are defined. Source: subsumption, Carpenter 1992, chapters 2 and 3.
 use Rattle.std.specs.Prelude.{ℕ, ◌<◌, Bool, true, ◌&&◌, not, eqb, ltb, Option, Some, None, List, [], ◌∷◌, get_or, drop}
 use Rattle.ale_declared.specs.Lists.{upto, every}
 use Rattle.ale_hierarchy.specs.Hierarchy.{Hierarchy}
 use Rattle.ale_graph.specs.Structures.{Structure, count, node_at, type_of, value_of}
 use Rattle.ale_graph.specs.Collapsing.{same_option}
-
--- where a map of nodes that is held as a list takes a node; past the list's end, to no node of the structure
-abbrev pub image : List ℕ → Structure → ℕ → ℕ
-image map t n = get_or map n (count t)
-
--- each node's type is one of the signature
-abbrev pub TypesInside : Hierarchy → Structure → Type 0
-TypesInside h s = (n : ℕ) → n < count s → type_of s n < h.types
 
 abbrev pub keeps_values : Structure → (ℕ → ℕ) → ℕ → List (ℕ × ℕ) → Bool
 keeps_values t at m values = every (λ v. same_option (value_of t m v.0) (Some (at v.1))) values

@@ -1,4 +1,4 @@
-ghost use Rattle.ale_morphism.specs.MorphismLaws.{RootsDetermine, Identity, Compose, ComposePairs, NotTransitive, Variants};
+ghost use Rattle.ale_morphism.specs.MorphismLaws.{RootsDetermine, Identity, Compose, ComposePairs, NotTransitive, SomeBotIsPlain, Variants};
 ghost use Rattle.ale_morphism.specs.VisibleLaws.{VisibleLaw, VisibleTwice, VisibleRooted, VisibleSubsumes};
 
 /// What morphisms obey: two of them agree on the nodes that the roots reach; the identity is one; one after
@@ -10,6 +10,7 @@ pub fn morphism_laws()
     ensures compose { Compose }
     ensures compose_pairs { ComposePairs }
     ensures not_transitive { NotTransitive }
+    ensures plain { SomeBotIsPlain }
     ensures variants { Variants }
 {}
 

@@ -2,7 +2,8 @@ ghost use Rattle.std.specs.Prelude.{◌≡◌, ◌↔◌, ◌<◌, IsTrue};
 ghost use Rattle.ale_hierarchy.specs.Order.{hierarchy};
 ghost use Rattle.ale_graph.specs.Structures.{count, is_formed};
 ghost use Rattle.ale_graph.specs.Morphisms.{IsMorphism};
-ghost use Rattle.ale_morphism.specs.MorphismTest.{TypesInside, image, keeps_values, keeps_node, keeps_nodes, keeps_apart, keeps_root, keeps_roots, is_morphism};
+ghost use Rattle.ale_morphism.specs.Maps.{TypesInside, image};
+ghost use Rattle.ale_morphism.specs.MorphismTest.{keeps_values, keeps_node, keeps_nodes, keeps_apart, keeps_root, keeps_roots, is_morphism};
 
 use crate::order::is_above;
 use ale_graph::Graph;

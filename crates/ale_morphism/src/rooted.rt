@@ -1,7 +1,7 @@
 ghost use Rattle.std.specs.Prelude.{◌≡◌, ◌↔◌, IfOk, IsTrue};
 ghost use Rattle.ale_declared.specs.Lists.{every};
 ghost use Rattle.ale_hierarchy.specs.Order.{hierarchy};
-ghost use Rattle.ale_morphism.specs.MorphismTest.{TypesInside};
+ghost use Rattle.ale_morphism.specs.Maps.{TypesInside};
 ghost use Rattle.ale_morphism.specs.Rooted.{IsRooted};
 ghost use Rattle.ale_morphism.specs.Visible.{some, is_bound_to};
 ghost use Rattle.ale_morphism.specs.Reaching.{flags_of};

@@ -3,7 +3,7 @@ ghost use Rattle.ale_hierarchy.specs.Order.{hierarchy};
 ghost use Rattle.ale_graph.specs.Structures.{count};
 ghost use Rattle.ale_graph.specs.Morphisms.{IsMorphism};
 ghost use Rattle.ale_graph.specs.Universal.{Agree};
-ghost use Rattle.ale_morphism.specs.MorphismTest.{TypesInside, image};
+ghost use Rattle.ale_morphism.specs.Maps.{TypesInside, image};
 ghost use Rattle.ale_morphism.specs.Rooted.{IsRooted};
 
 use crate::matching::{match_from_roots, targets};

@@ -1,7 +1,8 @@
 use Rattle.std.proofs.Common.{◌≡◌, ◌+◌, ◌∙◌, sym, [], length, get_or, drop, arith}
 use Rattle.std.specs.List.{filter_map}
 use Rattle.ale_hierarchy.specs.Order.{join}
-use Rattle.ale_hierarchy.proofs.LoopLemmas.{Has-get_or, drop_number}
+use Rattle.ale_hierarchy.proofs.LoopLemmas.{drop_number}
+use Rattle.ale_declared.proofs.TopLemmas.{Has-get_or}
 use Rattle.ale_hierarchy.proofs.JoinTableLemmas.{filled_length, filled_entry, filter_map_some, filter_map_none}
 use Rattle.ale_hierarchy.proofs.joins.find_candidates.Goals as goal
 use Rattle.ale_hierarchy.proofs.joins.find_candidates.Goals.{in-Some+in_ok-push, in_default}

@@ -8,5 +8,6 @@ returns c = record {
   compose = law.compose;
   compose_pairs = law.compose_pairs;
   not_transitive = law.not_transitive;
+  plain = law.some_bot_plain;
   variants = law.variants;
 }

@@ -1,5 +1,5 @@
 use Rattle.ale_hierarchy.specs.Order.{hierarchy}
-use Rattle.ale_morphism.specs.MorphismTest.{image}
+use Rattle.ale_morphism.specs.Maps.{image}
 use Rattle.ale_morphism.proofs.MorphismSteps.{test_decides}
 use Rattle.ale_morphism.proofs.morphism.is_morphism.Goals as goal
 

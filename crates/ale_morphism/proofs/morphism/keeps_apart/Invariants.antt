@@ -1,5 +1,6 @@
 use Rattle.std.proofs.Common.{◌≡◌, drop}
-use Rattle.ale_morphism.specs.MorphismTest.{image, keeps_apart}
+use Rattle.ale_morphism.specs.Maps.{image}
+use Rattle.ale_morphism.specs.MorphismTest.{keeps_apart}
 use Rattle.ale_morphism.proofs.morphism.keeps_apart.Given as goal
 
 abbrev pub invariant-loop-pair : goal.invariant-loop-pair

@@ -2,7 +2,8 @@ use Rattle.std.proofs.Common.{◌<◌, sym, ◌∙◌, rules}
 use Rattle.ale_declared.specs.Lists.{upto}
 use Rattle.ale_hierarchy.specs.Order.{hierarchy}
 use Rattle.ale_graph.specs.Structures.{count}
-use Rattle.ale_morphism.specs.MorphismTest.{image, keeps_node}
+use Rattle.ale_morphism.specs.Maps.{image}
+use Rattle.ale_morphism.specs.MorphismTest.{keeps_node}
 use Rattle.ale_graph.proofs.Lists.{has_upto}
 use Rattle.ale_morphism.proofs.MorphismSteps.{every_false}
 use Rattle.ale_morphism.proofs.morphism.keeps_nodes.Goals as goal

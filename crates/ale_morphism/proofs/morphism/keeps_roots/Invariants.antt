@@ -1,5 +1,6 @@
 use Rattle.std.proofs.Common.{◌≡◌, drop}
-use Rattle.ale_morphism.specs.MorphismTest.{image, keeps_roots}
+use Rattle.ale_morphism.specs.Maps.{image}
+use Rattle.ale_morphism.specs.MorphismTest.{keeps_roots}
 use Rattle.ale_morphism.proofs.morphism.keeps_roots.Given as goal
 
 abbrev pub invariant-loop-i : goal.invariant-loop-i

@@ -1,5 +1,6 @@
 use Rattle.std.proofs.Common.{◌≡◌, drop}
-use Rattle.ale_morphism.specs.MorphismTest.{image, keeps_values}
+use Rattle.ale_morphism.specs.Maps.{image}
+use Rattle.ale_morphism.specs.MorphismTest.{keeps_values}
 use Rattle.ale_morphism.proofs.morphism.keeps_values.Given as goal
 
 abbrev pub invariant-loop-value : goal.invariant-loop-value
