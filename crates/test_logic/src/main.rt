@@ -1,4 +1,4 @@
-//! Tests of signatures, closures, subsumption, searches and of what is written of them: each call is made with memory
+//! Tests of relations, signatures, closures, subsumption, searches and of what is written of them: each call is made with memory
 //! enough, and its answer compared. The cases are the file `stdin`, in the form that `test_support` reads.
 #![tactic(auto)]
 
@@ -9,6 +9,7 @@ mod facts;
 mod graphs;
 mod meanings;
 mod printing;
+mod relations;
 mod signatures;
 mod written;
 
@@ -16,6 +17,7 @@ use closures::{closure_of, subsumes_of, visible_of};
 use copies::{copied_row, copied_text};
 use meanings::{meaning_of, search_of};
 use printing::{name_of, part_of, structure_of};
+use relations::{added_pairs, common_of, counts_of, pairs_of};
 use signatures::{outline_of, signature_of};
 use std::alloc::{AllocError, Global};
 use std::io;
@@ -33,6 +35,10 @@ impl Room for Logic {
         match case.call.as_str() {
             "copied text" => copied_text(alloc, first),
             "copied row" => copied_row(alloc, first),
+            "pairs" => pairs_of(alloc, first),
+            "counts" => counts_of(alloc, first),
+            "common" => common_of(alloc, first),
+            "added" => added_pairs(alloc),
             "outline" => outline_of(alloc, first),
             "signature" => signature_of(alloc, first),
             "closure" => closure_of(alloc, first, second),

@@ -2,9 +2,11 @@
 //! The cases are the file `stdin`, in the form that `test_support` reads.
 #![tactic(auto)]
 
+mod commands;
 mod loads;
 mod runs;
 
+use commands::commands_of;
 use loads::loaded;
 use runs::{run_failing_files, run_failing_sink, run_texts, run_words};
 use std::alloc::{AllocError, Global};
@@ -35,6 +37,7 @@ impl Room for Program {
         let third = case.text(2);
         match case.call.as_str() {
             "load" => loaded(alloc, first),
+            "read" => commands_of(alloc, first, second),
             "run" => run_texts(alloc, first, second),
             "end of run" => {
                 let answer = run_texts(alloc, first, second)?;
