@@ -19,10 +19,20 @@ fn push_numbered(piece: &str, number: u32, out: &mut String) -> Result<(), Alloc
     Ok(())
 }
 
+/// Whether a piece is the same each time.
+fn is_plain(piece: &str) -> bool {
+    piece.split_once('#').is_none() && piece.split_once('$').is_none()
+}
+
 /// Writes a piece so many times.
 fn push_times(piece: &str, times: u32, out: &mut String) -> Result<(), AllocError> {
+    let plain = is_plain(piece);
     for number in 0..times {
-        push_numbered(piece, number, out)?;
+        if plain {
+            out.push_str(piece)?;
+        } else {
+            push_numbered(piece, number, out)?;
+        }
     }
     Ok(())
 }
