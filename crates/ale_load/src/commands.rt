@@ -1,5 +1,5 @@
 //! Commands that are read and whose names are looked up.
-ghost use Rattle.std.specs.Prelude.{◌≡◌, ◌≢◌, ◌≤◌, ◌↔◌, ℕ, suc, true, Option, Some, None, Result, Ok, Err, IfOk, IfErr, IfSome, List, [], map, option_map, length};
+ghost use Rattle.std.specs.Prelude.{◌≡◌, ◌≢◌, ◌≤◌, ◌↔◌, ℕ, suc, true, Option, Some, None, Result, Ok, Err, IfOk, MatchResult, IfSome, List, [], map, option_map, length};
 ghost use Rattle.std.specs.List.{All};
 ghost use Rattle.ale_token.specs.Places.{Stands};
 ghost use Rattle.ale_token.specs.Declarations.{IsDeclaration};
@@ -158,10 +158,8 @@ pub fn read_commands(
     sig: &Signature,
 ) -> Result<Vec<Described>, CommandError>
     ensures exact { CommandsGive (λ v. map query_data v.items) result (commands_of sig.now bytes.now) }
-    ensures found { IfOk result (λ v. AreCommands sig.now bytes.now (Ok (map query_data v.items))) }
-    ensures only { (qs : List Query) → AreCommands sig.now bytes.now (Ok qs) → CommandsGive (λ v. map query_data v.items) result (Ok qs) }
-    ensures cause { IfErr result (λ e. e ≢ NoMemory → AreCommands sig.now bytes.now (Err e)) }
-    ensures refused { (e : CommandError) → AreCommands sig.now bytes.now (Err e) → CommandsGive (λ v. map query_data v.items) result (Err e) }
+    ensures found { MatchResult result (λ v. AreCommands sig.now bytes.now (Ok (map query_data v.items))) (λ e. e ≢ NoMemory → AreCommands sig.now bytes.now (Err e)) }
+    ensures only { (answer : Result (List Query) CommandError) → AreCommands sig.now bytes.now answer → CommandsGive (λ v. map query_data v.items) result answer }
     ensures fit { IfOk result (λ v. AllFit (hierarchy sig.now) (map query_data v.items)) }
 {
     commands_law();

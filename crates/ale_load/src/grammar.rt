@@ -1,5 +1,5 @@
 //! Grammars that are loaded.
-ghost use Rattle.std.specs.Prelude.{◌≡◌, ◌<◌, ◌≢◌, ◌↔◌, ℕ, suc, Result, Ok, Err, OnOk, IfOk, IfErr, List, [], ◌++◌, map, length};
+ghost use Rattle.std.specs.Prelude.{◌≡◌, ◌<◌, ◌≢◌, ◌↔◌, ℕ, suc, Result, Ok, Err, OnOk, IfOk, MatchResult, List, [], ◌++◌, map, length};
 ghost use Rattle.std.specs.List.{All};
 ghost use Rattle.ale_token.specs.Places.{Stands};
 ghost use Rattle.ale_token.specs.Declarations.{IsDeclaration};
@@ -16,7 +16,7 @@ ghost use Rattle.ale_load.specs.declared.grammar_error.GrammarError.TheVariants.
 ghost use Rattle.ale_load.specs.Files.{IsCut, cut_of};
 ghost use Rattle.ale_load.specs.Reading.{each_read, first_without};
 ghost use Rattle.ale_load.specs.Grammars.{is_built, built_of, types_in, types_of, passed_in, passed_from, LoadedData, IsLoaded, grammar_fault, declaration_in, formed, declared_by, after_signature, load_of};
-ghost use Rattle.ale_load.specs.Laws.{LoadLaw, LawfulLaw};
+ghost use Rattle.ale_load.specs.Laws.{LoadLaw, LawfulLaw, DistinctLaw};
 ghost use Rattle.ale_load.specs.Results.{LoadGives};
 ghost use Rattle.ale_load.specs.Views.{parts_in, part_in, passed_data, loaded_data};
 
@@ -25,7 +25,7 @@ use crate::file::{Parts, cut};
 use crate::file_error::FileError;
 use crate::grammar_error::GrammarError;
 use ale_declaration::{Declaration, one_declaration, read_declaration};
-use ale_declared::SigDecl;
+use ale_declared::{SigDecl, numbering_law};
 use ale_form::FormError;
 use ale_signature::{SigError, Signature, fault_law, signature_law};
 use ale_term::add;
@@ -219,10 +219,8 @@ fn load_in(alloc: Global, bytes: &[u8]) -> Result<Loaded, GrammarError>
 /// `Signature` for the fault of the signature. `NoMemory` comes where memory runs out.
 pub fn load(alloc: Global, bytes: &[u8]) -> Result<Loaded, GrammarError>
     ensures exact { LoadGives loaded_data result (load_of bytes.now) }
-    ensures found { IfOk result (λ l. IsLoaded bytes.now (Ok (loaded_data l))) }
-    ensures only { (l : LoadedData) → IsLoaded bytes.now (Ok l) → LoadGives loaded_data result (Ok l) }
-    ensures cause { IfErr result (λ e. e ≢ NoMemory → IsLoaded bytes.now (Err e)) }
-    ensures refused { (e : GrammarError) → IsLoaded bytes.now (Err e) → LoadGives loaded_data result (Err e) }
+    ensures found { MatchResult result (λ l. IsLoaded bytes.now (Ok (loaded_data l))) (λ e. e ≢ NoMemory → IsLoaded bytes.now (Err e)) }
+    ensures only { (answer : Result LoadedData GrammarError) → IsLoaded bytes.now answer → LoadGives loaded_data result answer }
     ensures accepted { IfOk result (λ l. IsAccepted l.signature) }
     ensures lawful { IfOk result (λ l. IsLawful (hierarchy l.signature)) }
 {
@@ -231,12 +229,14 @@ pub fn load(alloc: Global, bytes: &[u8]) -> Result<Loaded, GrammarError>
 }
 
 /// The bytes of a grammar are loaded as one thing or refused for one cause, which the function that `load` carries out
-/// gives; and the signature of a grammar that is loaded obeys the laws of a hierarchy.
+/// gives; and the signature of a grammar that is loaded obeys the laws of a hierarchy, and no two of its types have one name.
 pub fn load_law()
     ensures loads { LoadLaw }
     ensures lawful { LawfulLaw }
+    ensures distinct { DistinctLaw }
 {
     one_declaration();
     fault_law();
     signature_law();
+    numbering_law();
 }

@@ -14,6 +14,6 @@ mod text;
 mod walk;
 
 pub use answer::print_answer;
-pub use laws::{printed_names, texts_tell};
+pub use laws::{printed_names, texts_tell, visible_texts};
 pub use line::{Line, Place, Shown, Stop};
 pub use name::print_name;
