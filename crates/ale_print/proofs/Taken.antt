@@ -237,8 +237,10 @@ module _ (s t : Structure) (to : ℕ → ℕ) (takes : Takes s t to) where
       let before : is_before (pair_to p) (pair_to q) ≡ is_before p q =
       (let a = ltb_to p.0 q.0 v.0 u.0 in let b = eqb_to p.0 q.0 v.0 u.0 in let c = ltb_to p.1 q.1 v.1 u.1 in λ i. a i || (b i && c i)) in
       let rest = put_to p qs v (λ r h. seen r (inr h)) in
-      (λ i. if same i then pair_to q ∷ map pair_to qs else if before i then pair_to p ∷ pair_to q ∷ map pair_to qs else pair_to q ∷ rest i)
-      ∙ go (is_same p q) (is_before p q)
+      let tests : put (pair_to p) (map pair_to (q ∷ qs))
+          ≡ (if is_same p q then pair_to q ∷ map pair_to qs else if is_before p q then pair_to p ∷ pair_to q ∷ map pair_to qs else pair_to q ∷ map pair_to (put p qs)) =
+      λ i. if same i then pair_to q ∷ map pair_to qs else if before i then pair_to p ∷ pair_to q ∷ map pair_to qs else pair_to q ∷ rest i in
+      tests ∙ go (is_same p q) (is_before p q)
     where
       go : (a b : Bool) → (if a then pair_to q ∷ map pair_to qs else if b then pair_to p ∷ pair_to q ∷ map pair_to qs else pair_to q ∷ map pair_to (put p qs))
           ≡ map pair_to (if a then q ∷ qs else if b then p ∷ q ∷ qs else q ∷ put p qs)
@@ -252,7 +254,8 @@ module _ (s t : Structure) (to : ℕ → ℕ) (takes : Takes s t to) where
       let v = seen p (inl refl) in
       let first = lower_to p v in
       let rest = order_to ps (λ q h. seen q (inr h)) in
-      (λ i. put (first i) (rest i)) ∙ put_to (lower_first p) (in_order ps) (lower_seen p v) (order_seen ps (λ q h. seen q (inr h)))
+      let parts : in_order (map pair_to (p ∷ ps)) ≡ put (pair_to (lower_first p)) (map pair_to (in_order ps)) = λ i. put (first i) (rest i) in
+      parts ∙ put_to (lower_first p) (in_order ps) (lower_seen p v) (order_seen ps (λ q h. seen q (inr h)))
 
   -- the stops at the start
 

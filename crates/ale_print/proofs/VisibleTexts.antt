@@ -22,6 +22,9 @@ use Rattle.ale_print.specs.Texts.{front, tag_text, type_front, shown_text, line_
 use Rattle.ale_print.specs.Sameness.{VisibleTexts}
 use Rattle.ale_print.proofs.Taken.{Takes, eqb_to, AreSeen, shown_to, line_to, pair_to, ShownSeen, LinesSeen, pairs_seen, lines_to}
 
+abbrev tags : Structure → ℕ × ℕ → ℕ × ℕ
+tags s p = (tag_of s p.0, tag_of s p.1)
+
 module _ (s t : Structure) (to : ℕ → ℕ) (takes : Takes s t to) where
   -- tags
 
@@ -56,11 +59,12 @@ module _ (s t : Structure) (to : ℕ → ℕ) (takes : Takes s t to) where
           × AreSeen s t to takes (first_met test x (met_in_order test ls))
       go Unbound u ih = ih
       go (Again m) u ih = ih
-      go (First m) u ih = (
-        (λ i. if same m u i then to m ∷ ih.0 i else ih.0 i) ∙ split (test m),
-        kept (test m),
-      )
+      go (First m) u ih = (tested ∙ split (test m), kept (test m))
         where
+          tested : (if test_too (to m) then to m ∷ met_in_order test_too (map (line_to s t to takes) ls) else met_in_order test_too (map (line_to s t to takes) ls))
+              ≡ (if test m then to m ∷ map to (met_in_order test ls) else map to (met_in_order test ls))
+          tested = let one = same m u in λ i. if one i then to m ∷ ih.0 i else ih.0 i
+
           split : (b : Bool) → (if b then to m ∷ map to (met_in_order test ls) else map to (met_in_order test ls)) ≡ map to (if b then m ∷ met_in_order test ls else met_in_order test ls)
           split true = refl
           split false = refl
@@ -116,7 +120,7 @@ module _ (s t : Structure) (to : ℕ → ℕ) (takes : Takes s t to) where
         λ i. (front d names l.place ++ (first i ++ codes "\n")) ++ rest i
 
     tags_to : (ps : List (ℕ × ℕ)) → ((p : ℕ × ℕ) → Has ps p → Visible s p.0 × Visible s p.1)
-        → map (λ (p : ℕ × ℕ). (tag_of t p.0, tag_of t p.1)) (map (pair_to s t to takes) ps) ≡ map (λ (p : ℕ × ℕ). (tag_of s p.0, tag_of s p.1)) ps
+        → map (tags t) (map (pair_to s t to takes) ps) ≡ map (tags s) ps
     tags_to [] u = refl
     tags_to (p ∷ ps) u =
         let v = u p (inl refl) in
@@ -130,7 +134,7 @@ module _ (s t : Structure) (to : ℕ → ℕ) (takes : Takes s t to) where
     same_text d names =
         let lines = ap (flat_map (line_text d names (type_of t) (tag_of t))) lines_are ∙ lines_text d names (lines_of s) seen in
         let pairs : tag_pairs t ≡ tag_pairs s =
-        ap (λ (z : List (ℕ × ℕ)). in_order (map (λ (p : ℕ × ℕ). (tag_of t p.0, tag_of t p.1)) z)) takes.differ ∙ ap in_order (tags_to s.differ (pairs_seen s t to takes)) in
+        ap (λ (z : List (ℕ × ℕ)). in_order (map (tags t) z)) takes.differ ∙ ap in_order (tags_to s.differ (pairs_seen s t to takes)) in
         λ i. lines i ++ flat_map pair_text (pairs i)
 
 -- what is visible, in the visible part

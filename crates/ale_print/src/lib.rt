@@ -5,6 +5,7 @@
 #![tactic(auto)]
 
 mod answer;
+mod flags;
 mod laws;
 mod line;
 mod name;

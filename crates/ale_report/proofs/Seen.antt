@@ -1,5 +1,5 @@
--- A description speaks of no more than what is visible from its node: it holds wherever that is taken, and the visible
--- part of a structure is one.
+-- A description speaks of no more than what is seen from its node: it holds wherever that is taken. And the visible part of
+-- a total, extensional structure is one.
 use Rattle.std.proofs.Common.{◌≡◌, ◌≢◌, ℕ, ◌<◌, Option, Some, None, List, [], ◌∷◌, option_map, ◌⊎◌, inl, inr, refl, sym, ap, ◌∙◌, subst, IsTrue}
 use Rattle.ale_declared.specs.Lists.{Has}
 use Rattle.ale_hierarchy.specs.Hierarchy.{Hierarchy, Above, IsLawful}
@@ -12,28 +12,29 @@ use Rattle.ale_morphism.proofs.ReachSteps.{visible_formed}
 use Rattle.ale_morphism.proofs.VisibleLaws.{is_part}
 use Rattle.ale_logic.specs.Descriptions.{Description, Descriptions, of_type, slot, at, all, any, meet, none, more, LeadsTo, HoldsAt, AllHoldAt, SomeHoldsAt}
 
-module _ (h : Hierarchy) (law : IsLawful h) (s t : Structure) (to : ℕ → ℕ)
-    (types : (n : ℕ) → Visible s n → Above h (type_of s n) (type_of t (to n)))
-    (values : (n f m : ℕ) → Visible s n → value_of s n f ≡ Some m → value_of t (to n) f ≡ Some (to m))
-    (assign new : ℕ → ℕ) (agrees : (v : ℕ) → Visible s (assign v) → new v ≡ to (assign v)) where
-  path_taken : (n : ℕ) (path : List ℕ) (m : ℕ) → Visible s n → LeadsTo s n path m → LeadsTo t (to n) path (to m)
+module _ (h : Hierarchy) (law : IsLawful h) (s t : Structure) (Seen : ℕ → Type 0) (to : ℕ → ℕ)
+    (below : (n f m : ℕ) → Seen n → value_of s n f ≡ Some m → Seen m)
+    (types : (n : ℕ) → Seen n → Above h (type_of s n) (type_of t (to n)))
+    (values : (n f m : ℕ) → Seen n → value_of s n f ≡ Some m → value_of t (to n) f ≡ Some (to m))
+    (assign new : ℕ → ℕ) (agrees : (v : ℕ) → Seen (assign v) → new v ≡ to (assign v)) where
+  path_taken : (n : ℕ) (path : List ℕ) (m : ℕ) → Seen n → LeadsTo s n path m → LeadsTo t (to n) path (to m)
   path_taken n [] m v e = ap to e
-  path_taken n (f ∷ path) m v l = (to l.0, values n f l.0 v l.1, path_taken l.0 path m (value n f l.0 v l.1) l.2)
+  path_taken n (f ∷ path) m v l = (to l.0, values n f l.0 v l.1, path_taken l.0 path m (below n f l.0 v l.1) l.2)
 
   mutual
-    pub held : (d : Description) (n : ℕ) → Visible s n → HoldsAt h s assign d n → HoldsAt h t new d (to n)
+    pub held : (d : Description) (n : ℕ) → Seen n → HoldsAt h s assign d n → HoldsAt h t new d (to n)
     held (of_type k) n v r = law.along k (type_of s n) (type_of t (to n)) r (types n v)
-    held (slot x) n v e = agrees x (subst (Visible s) (sym e) v) ∙ ap to e
-    held (at f d) n v r = (to r.0, values n f r.0 v r.1, held d r.0 (value n f r.0 v r.1) r.2)
+    held (slot x) n v e = agrees x (subst Seen (sym e) v) ∙ ap to e
+    held (at f d) n v r = (to r.0, values n f r.0 v r.1, held d r.0 (below n f r.0 v r.1) r.2)
     held (all ds) n v r = all_held ds n v r
     held (any ds) n v r = some_held ds n v r
     held (meet p q) n v r = (to r.0, path_taken n p r.0 v r.1, path_taken n q r.0 v r.2)
 
-    all_held : (ds : Descriptions) (n : ℕ) → Visible s n → AllHoldAt h s assign ds n → AllHoldAt h t new ds (to n)
+    all_held : (ds : Descriptions) (n : ℕ) → Seen n → AllHoldAt h s assign ds n → AllHoldAt h t new ds (to n)
     all_held none n v r = tt
     all_held (more d ds) n v r = (held d n v r.0, all_held ds n v r.1)
 
-    some_held : (ds : Descriptions) (n : ℕ) → Visible s n → SomeHoldsAt h s assign ds n → SomeHoldsAt h t new ds (to n)
+    some_held : (ds : Descriptions) (n : ℕ) → Seen n → SomeHoldsAt h s assign ds n → SomeHoldsAt h t new ds (to n)
     some_held none n v r = absurd r
     some_held (more d ds) n v (inl r) = inl (held d n v r)
     some_held (more d ds) n v (inr r) = inr (some_held ds n v r)

@@ -8,7 +8,7 @@ use Rattle.ale_graph.specs.Structures.{Structure, IsStructure, count, type_of, v
 use Rattle.ale_graph.specs.Morphisms.{IsMorphism, IsMorphismAside, Subsumes}
 use Rattle.ale_graph.specs.Closure.{node_of}
 use Rattle.ale_graph.proofs.Lists.{some_one, none_some}
-use Rattle.ale_morphism.specs.Visible.{Visible, root, is_visible, visible_below, renumbered, origin, visible}
+use Rattle.ale_morphism.specs.Visible.{Visible, root, value, is_visible, visible_below, renumbered, origin, visible}
 use Rattle.ale_morphism.specs.VisibleLaws.{IsPart}
 use Rattle.ale_morphism.proofs.MorphismLaws.{identity}
 use Rattle.ale_morphism.proofs.ReachSteps.{total}
@@ -116,7 +116,7 @@ module _ (h : Hierarchy) (law : IsLawful h) (d : Description) (c : Answer) (is :
         node = root_low;
         nodes = new_low;
         holds = subst (λ z. HoldsAt h s new d z) root_to
-            (held h law (rooted c.closed) s to types values is.assign new new_is d (node_of c.closed 0) seen_root is.is.holds);
+            (held h law c.closed.graph s (Visible (rooted c.closed)) to (λ a f b v e. value a f b v e) types values is.assign new new_is d (node_of c.closed 0) seen_root is.is.holds);
       };
     }
 

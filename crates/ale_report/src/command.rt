@@ -1,5 +1,5 @@
 //! What is written for a command.
-ghost use Rattle.std.specs.Prelude.{◌≡◌, ◌<◌, ◌^◌, ◌++◌, codes, OnOk, IfOk, length, string_bytes};
+ghost use Rattle.std.specs.Prelude.{◌≡◌, ◌<◌, ◌^◌, ◌++◌, codes, [], OnOk, IfOk, length, string_bytes};
 ghost use Rattle.std.specs.Fmt.{decimal};
 ghost use Rattle.ale_declared.specs.Lists.{Has};
 ghost use Rattle.ale_hierarchy.specs.Order.{hierarchy};
@@ -7,7 +7,8 @@ ghost use Rattle.ale_graph.specs.Structures.{count};
 ghost use Rattle.ale_logic.specs.declared.answer.Answer.{Answer};
 ghost use Rattle.ale_logic.specs.Descriptions.{description, FitsDescription};
 ghost use Rattle.ale_logic.specs.Solutions.{IsAnswer};
-ghost use Rattle.ale_report.specs.Parts.{searched, answer_text, answers_text, ending_text, command_text};
+ghost use Rattle.ale_print.specs.Texts as print;
+ghost use Rattle.ale_report.specs.Parts.{searched, rooted, written, answer_text, answers_text, ending_text, command_text};
 ghost use Rattle.ale_report.specs.Printing.{IsPrinted};
 ghost use Rattle.ale_report.specs.Written.{AreCountable};
 
@@ -17,6 +18,14 @@ use ale_print::{print_answer, visible_texts};
 use ale_search::find;
 use ale_signature::Signature;
 use std::alloc::{AllocError, Global};
+
+// The graph of an answer and the structure that is written of it have one text.
+fn same_text(sig: &Signature, answer: &Answer)
+    requires { IsPrinted (hierarchy sig.now) answer.now }
+    ensures { print.answer_text sig.now [] (rooted answer.now.closed) ≡ print.answer_text sig.now [] (written answer.now) }
+{
+    visible_texts();
+}
 
 // Writes an answer with its number.
 fn push_answer(
@@ -30,7 +39,7 @@ fn push_answer(
     ensures text { OnOk result (string_bytes out.new ≡ string_bytes out.old ++ answer_text sig.now number answer) }
     ensures countable { OnOk result (count answer.closed.graph < 2 ^ 64) }
 {
-    visible_texts();
+    same_text(sig, &answer);
     let _ = answer.closed.graph.nodes.as_slice().len();
     let graph = rooted(alloc, answer.closed)?;
     let text = print_answer(alloc, sig, &graph, &[])?;

@@ -1,5 +1,5 @@
 -- A plain description is looked up as the function gives, and a call that carries out the function answers so.
-use Rattle.std.proofs.Common.{◌≡◌, ◌≢◌, ℕ, true, Result, Ok, Err, List, [], refl, sym, subst}
+use Rattle.std.proofs.Common.{◌≡◌, ◌≢◌, ℕ, true, Result, Ok, Err, List, [], refl, sym, ◌∙◌, subst}
 use Rattle.ale_declared.specs.Declarations.{Declared}
 use Rattle.ale_term.specs.Terms.{TermData}
 use Rattle.ale_logic.specs.Descriptions.{Description}
@@ -8,7 +8,7 @@ use Rattle.ale_resolve.specs.declared.error.NameError.TheVariants.{UnknownType, 
 use Rattle.ale_resolve.specs.Forms.{is_plain}
 use Rattle.ale_resolve.specs.Mentions.{unknown}
 use Rattle.ale_resolve.specs.Resolving.{resolved}
-use Rattle.ale_resolve.specs.Results.{Fails, Gives}
+use Rattle.ale_resolve.specs.Results.{Fails}
 use Rattle.ale_resolve.specs.LookedUp.{IsLookedUp, described, not_declared}
 use Rattle.ale_resolve.proofs.Meaning.{stands, given}
 use Rattle.ale_resolve.proofs.Unknown.{unknown_found, unknown_given}
@@ -36,6 +36,9 @@ module _ (d : Declared) (t : TermData) (plain : is_plain t ≡ true) where
   refused_as (UnknownFeature n) f some = looked_made (Err (UnknownFeature n)) f
   refused_as NoMemory f some = absurd (some refl)
 
-  pub gives_only : {V : Type 0} (view : V → Named) (result : Result V NameError) → Gives view result (resolved d [] t) →
-      (answer : Result Named NameError) → IsLookedUp d t answer → Gives view result answer
-  gives_only view result gives answer is = subst (Gives view result) (looked_given answer is) gives
+  -- nothing else is found or refused
+  pub described_only : (p : Named) → resolved d [] t ≡ Ok p → (answer : Result Named NameError) → IsLookedUp d t answer → answer ≡ Ok p
+  described_only p e answer is = sym (looked_given answer is) ∙ e
+
+  pub refused_only : (e : NameError) → Fails e (resolved d [] t) → (answer : Result Named NameError) → IsLookedUp d t answer → Fails e answer
+  refused_only e f answer is = subst (Fails e) (looked_given answer is) f

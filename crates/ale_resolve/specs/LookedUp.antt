@@ -1,6 +1,6 @@
 -- What a written description is looked up as: the description that it stands for, with the names of its variables in
 -- order of their slots, or the first name that is not declared.
--- Source: the description language, Carpenter 1992, chapter 4; which name is told of is this project's own.
+-- Source: the description language, Carpenter 1992, chapter 4; that the first name is told of is this project's own.
 use Rattle.std.specs.Prelude.{ℕ, Result, Ok, Err, List, []}
 use Rattle.ale_declared.specs.Declarations.{Declared}
 use Rattle.ale_term.specs.Terms.{TermData}

@@ -60,7 +60,7 @@ fn path_of(alloc: Global, sig: &Signature, names: &[Text]) -> Result<Row<FeatId>
     Ok(Row::of(path))
 }
 
-/// The description that the term stands for behind these variables, which it adds its own to.
+/// The description that the term stands for after these variables, which it adds its own to.
 #[tactic(auto, using(ale_logic::proofs::Terms::description_rules, ale_term::proofs::Terms::term_rules))]
 fn look_up(
     alloc: Global,

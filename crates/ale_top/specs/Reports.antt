@@ -15,7 +15,7 @@ use Rattle.ale_top.specs.declared.status.Status.{Status}
 use Rattle.ale_top.specs.declared.status.Status.TheVariants.{ReadFault, NoMemory}
 use Rattle.ale_top.specs.Jobs.{Job}
 use Rattle.ale_top.specs.Output.{Ending, search_for, outcome}
-use Rattle.ale_top.specs.Runs.{Wrote, IsAnswered, AsTold}
+use Rattle.ale_top.specs.Runs.{Wrote, IsAnswered, AsStated}
 
 abbrev pub report_of : Report → Ending
 report_of r = (r.status, string_bytes r.text)
@@ -25,9 +25,9 @@ abbrev pub IsInput : Input → List ℕ → Type 0
 IsInput TooLong bytes = file_limit < length bytes
 IsInput (Whole v) bytes = (v.items ≡ bytes) × (length bytes ≤ file_limit)
 
--- what was read of a file that is told to hold bytes, where any are told
+-- what was read of a file that is stated to hold bytes, where any are stated
 abbrev pub IsInputOf : Option (List ℕ) → Input → Type 0
-IsInputOf told i = (bytes : List ℕ) × AsTold told bytes × IsInput i bytes
+IsInputOf stated i = (bytes : List ℕ) × AsStated stated bytes × IsInput i bytes
 
 -- what the reading of a file comes to where it isn't read whole
 abbrev pub unread : ReadError → Result Input Status
@@ -47,12 +47,12 @@ AreCountedFor d c budget = (qs : List Query) → commands_of d c ≡ Ok qs → A
 abbrev pub AreCountedIn : List ℕ → List ℕ → ℕ → Type 0
 AreCountedIn g c budget = (l : LoadedData) → load_of g ≡ Ok l → AreCountedFor l.signature_of c budget
 
--- There are texts, as told, of which what the function gives was written; the nodes of all answers that were written could
+-- There are texts, as stated, of which what the function gives was written; the nodes of all answers that were written could
 -- be counted.
 pub record Reached (content : List ℕ → Option (List ℕ)) (job : Job) (budget : ℕ) (result : Status) (old new : Option (List ℕ)) : Type 0 where
   pub grammar : List ℕ
   pub commands : List ℕ
-  pub grammar_told : AsTold (content job.grammar) grammar
-  pub commands_told : AsTold (content job.commands) commands
+  pub grammar_stated : AsStated (content job.grammar) grammar
+  pub commands_stated : AsStated (content job.commands) commands
   pub wrote : Wrote (outcome grammar commands budget) result old new
   pub counted : IsAnswered result → AreCountedIn grammar commands budget

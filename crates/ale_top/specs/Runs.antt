@@ -110,26 +110,26 @@ pub record Ran (g c : List ℕ) (budget : ℕ) (result : Status) (old new : Opti
   pub unfinished : IsExactly result Unfinished (Unfinishes g c budget)
   pub visible : IsAnswered result → OfEachIn g c budget Fixed
 
--- the bytes are those that are told, where any are
-abbrev pub AsTold : Option (List ℕ) → List ℕ → Type 0
-AsTold told bytes = IfSome told (λ b. b ≡ bytes)
+-- the bytes are those that are stated, where any are
+abbrev pub AsStated : Option (List ℕ) → List ℕ → Type 0
+AsStated stated bytes = IfSome stated (λ b. b ≡ bytes)
 
--- There are texts of which the job was run: those that its files are told to hold, where any are told.
+-- There are texts of which the job was run: those that its files are stated to hold, where any are stated.
 pub record RanOnSome (content : List ℕ → Option (List ℕ)) (job : Job) (budget : ℕ) (result : Status) (old new : Option (List ℕ)) : Type 0 where
   pub grammar : List ℕ
   pub commands : List ℕ
-  pub grammar_told : AsTold (content job.grammar) grammar
-  pub commands_told : AsTold (content job.commands) commands
+  pub grammar_stated : AsStated (content job.grammar) grammar
+  pub commands_stated : AsStated (content job.commands) commands
   pub ran : Ran grammar commands budget result old new
 
 -- the words stand for a job, and the files tell what its grammar is
-pub record ToldGrammar (words : List (List ℕ)) (content : List ℕ → Option (List ℕ)) (g : List ℕ) : Type 0 where
+pub record StatedGrammar (words : List (List ℕ)) (content : List ℕ → Option (List ℕ)) (g : List ℕ) : Type 0 where
   pub job : Job
   pub words_are : job_of words ≡ Some job
   pub grammar : content job.grammar ≡ Some g
 
 -- the words stand for a job, and the files tell what they hold
-pub record Told (words : List (List ℕ)) (content : List ℕ → Option (List ℕ)) (g c : List ℕ) : Type 0 where
+pub record Stated (words : List (List ℕ)) (content : List ℕ → Option (List ℕ)) (g c : List ℕ) : Type 0 where
   pub job : Job
   pub words_are : job_of words ≡ Some job
   pub grammar : content job.grammar ≡ Some g

@@ -7,7 +7,7 @@ ghost use Rattle.ale_top.specs.Named.{job_named};
 ghost use Rattle.ale_top.specs.Meanings.{Sound, Complete, Subsumed, Enough, Budgeted, Fixed};
 ghost use Rattle.ale_top.specs.Output.{Output};
 ghost use Rattle.ale_top.specs.Reports.{IsInputOf, Reached, unread};
-ghost use Rattle.ale_top.specs.Runs.{Wrote, IsEarly, IsOwed, IsExactly, IsAnswered, IsAcceptedGrammar, AreAccepted, Finishes, Unfinishes, ToldGrammar, Told, RanOnSome, OfEachIn, OfEachCommand, default_budget};
+ghost use Rattle.ale_top.specs.Runs.{Wrote, IsEarly, IsOwed, IsExactly, IsAnswered, IsAcceptedGrammar, AreAccepted, Finishes, Unfinishes, StatedGrammar, Stated, RanOnSome, OfEachIn, OfEachCommand, default_budget};
 
 use crate::running::{Input, report_on};
 use crate::status::Status;
@@ -132,6 +132,32 @@ fn run_job<F: Files, W: Sink>(
     }
 }
 
+/// Runs the job for which the words stand, or writes the usage line.
+fn run_words<F: Files, W: Sink>(
+    alloc: Global,
+    words: &[String],
+    files: &mut F,
+    out: &mut W,
+) -> Status
+    requires { (job : Job) → job_of (map string_bytes words.now) ≡ Some job
+        → F.may_choose files.old job.grammar × F.may_choose files.old job.commands }
+    ensures usage { job_of (map string_bytes words.now) ≡ None
+        → Wrote (Status.Words, usage) result (W.written out.old) (W.written out.new) }
+    ensures words { IsExactly result Status.Words (job_of (map string_bytes words.now) ≡ None) }
+    ensures files_stay { job_of (map string_bytes words.now) ≡ None → F.faults files.new ≡ F.faults files.old }
+    ensures job { (job : Job) → job_of (map string_bytes words.now) ≡ Some job
+        → Reached (F.content files.old) job default_budget result (W.written out.old) (W.written out.new) }
+    ensures read_fault { ExactlyWhereRose (F.faults files.old) (F.faults files.new) (result ≡ Status.ReadFault) }
+    ensures write_fault { ExactlyWhereRose (W.faults out.old) (W.faults out.new) (result ≡ Status.WriteFault) }
+    ensures unread { result ≡ Status.ReadFault → (job_of (map string_bytes words.now) ≢ None)
+        × (W.written out.new ≡ W.written out.old) × (W.faults out.new ≡ W.faults out.old) }
+{
+    match names_of(words) {
+        None => write_text(out, Status::Words, USAGE.as_bytes()),
+        Some(names) => run_job(alloc, &names, files, out, default_budget()),
+    }
+}
+
 /// Runs the job for which the words stand: reads the grammar and the commands, and writes what is defined.
 /// The words are those of the command line without the program's name.
 pub fn run<F: Files, W: Sink>(alloc: Global, words: &[String], files: &mut F, out: &mut W) -> Status
@@ -145,13 +171,13 @@ pub fn run<F: Files, W: Sink>(alloc: Global, words: &[String], files: &mut F, ou
     ensures words { IsExactly result Status.Words (job_of (map string_bytes words.now) ≡ None) }
     ensures files_stay { job_of (map string_bytes words.now) ≡ None → F.faults files.new ≡ F.faults files.old }
 
-    // A job is run of some texts, which are those that its files are told to hold: it writes their defined output, each
+    // A job is run of some texts, which are those that its files are stated to hold: it writes their defined output, each
     // status has its cause, and the text of each answer fixes the structure that is written.
     ensures job { (job : Job) → job_of (map string_bytes words.now) ≡ Some job
         → RanOnSome (F.content files.old) job default_budget result (W.written out.old) (W.written out.new) }
 
-    // So of texts that are told: a job writes their defined output, with its status.
-    ensures output { (g c : List ℕ) → Told (map string_bytes words.now) (F.content files.old) g c
+    // So of texts that are stated: a job writes their defined output, with its status.
+    ensures output { (g c : List ℕ) → Stated (map string_bytes words.now) (F.content files.old) g c
         → (s : Status) (text : List ℕ) → Output g c default_budget s text
         → Wrote (s, text) result (W.written out.old) (W.written out.new) }
     ensures some { (g c : List ℕ) → (s : Status) × ((text : List ℕ) × Output g c default_budget s text) }
@@ -159,13 +185,13 @@ pub fn run<F: Files, W: Sink>(alloc: Global, words: &[String], files: &mut F, ou
         → (s ≡ t) × (x ≡ y) }
 
     // Why each status comes. Whether the grammar is refused turns on its bytes alone.
-    ensures grammar { (g : List ℕ) → ToldGrammar (map string_bytes words.now) (F.content files.old) g
+    ensures grammar { (g : List ℕ) → StatedGrammar (map string_bytes words.now) (F.content files.old) g
         → IsExactly result Status.Grammar (IsAcceptedGrammar g → ⊥) }
-    ensures commands { (g c : List ℕ) → Told (map string_bytes words.now) (F.content files.old) g c
+    ensures commands { (g c : List ℕ) → Stated (map string_bytes words.now) (F.content files.old) g c
         → IsExactly result Status.Commands (IsAcceptedGrammar g × (AreAccepted g c → ⊥)) }
-    ensures done { (g c : List ℕ) → Told (map string_bytes words.now) (F.content files.old) g c
+    ensures done { (g c : List ℕ) → Stated (map string_bytes words.now) (F.content files.old) g c
         → IsExactly result Status.Done (Finishes g c default_budget) }
-    ensures unfinished { (g c : List ℕ) → Told (map string_bytes words.now) (F.content files.old) g c
+    ensures unfinished { (g c : List ℕ) → Stated (map string_bytes words.now) (F.content files.old) g c
         → IsExactly result Status.Unfinished (Unfinishes g c default_budget) }
     ensures read_fault { ExactlyWhereRose (F.faults files.old) (F.faults files.new) (result ≡ Status.ReadFault) }
     ensures write_fault { ExactlyWhereRose (W.faults out.old) (W.faults out.new) (result ≡ Status.WriteFault) }
@@ -175,7 +201,7 @@ pub fn run<F: Files, W: Sink>(alloc: Global, words: &[String], files: &mut F, ou
         × (W.written out.new ≡ W.written out.old) × (W.faults out.new ≡ W.faults out.old) }
 
     // What was written of an answer is the visible part of a solution, and its text fixes it.
-    ensures visible { (g c : List ℕ) → Told (map string_bytes words.now) (F.content files.old) g c
+    ensures visible { (g c : List ℕ) → Stated (map string_bytes words.now) (F.content files.old) g c
         → IsAnswered result → OfEachIn g c default_budget Fixed }
 
     // What the answers mean, whatever the texts.
@@ -189,8 +215,5 @@ pub fn run<F: Files, W: Sink>(alloc: Global, words: &[String], files: &mut F, ou
     load_law();
     commands_law();
     written_law();
-    match names_of(words) {
-        None => write_text(out, Status::Words, USAGE.as_bytes()),
-        Some(names) => run_job(alloc, &names, files, out, default_budget()),
-    }
+    run_words(alloc, words, files, out)
 }

@@ -7,7 +7,7 @@ use Rattle.ale_logic.specs.Descriptions.{description, FitsDescription}
 use Rattle.ale_resolve.specs.Resolving.{StandsFor, resolved}
 use Rattle.ale_resolve.specs.Results.{Fails}
 use Rattle.ale_resolve.proofs.Meaning.{stands, same_parts, no_choice, grows, fits}
-use Rattle.ale_resolve.proofs.LookedUp.{described_as, refused_as, gives_only}
+use Rattle.ale_resolve.proofs.LookedUp.{described_as, refused_as, described_only, refused_only}
 use Rattle.ale_resolve.proofs.describing.describe.Goals as goal
 
 -- why nothing was found
@@ -21,7 +21,8 @@ returns-in_err-desc-clause-found c =
 
 pub returns-in_err-desc-clause-only : goal.returns-in_err-desc-clause-only
 returns-in_err-desc-clause-only c answer is =
-    gives_only c.args.sig.now (term_data c.args.term.now) c.requires.plain (λ (r : Described). (description r.desc, r.names)) c.from_residual.result ? answer is
+    let p = err_from_is_err_and c.from_residual.result c.from_residual.ensures.1 in
+    rw (p.1, p.2) (refused_only c.args.sig.now (term_data c.args.term.now) c.requires.plain c.in_err-desc.field-0.0 (failed c) answer is)
 
 -- what was found
 is_found : (c : goal.After-as_slice) → resolved c.args.sig.now [] (term_data c.args.term.now) ≡ Ok (description c.in_ok-desc.desc, c.into_names-names.result)
@@ -45,7 +46,8 @@ returns-clause-found c =
     described_as c.args.sig.now (term_data c.args.term.now) c.requires.plain (description c.in_ok-desc.desc, c.into_names-names.result) (is_found c)
 
 pub returns-clause-only : goal.returns-clause-only
-returns-clause-only c answer is = ?
+returns-clause-only c answer is =
+    described_only c.args.sig.now (term_data c.args.term.now) c.requires.plain (description c.in_ok-desc.desc, c.into_names-names.result) (is_found c) answer is
 
 pub returns-clause-fits : goal.returns-clause-fits
 returns-clause-fits c =
