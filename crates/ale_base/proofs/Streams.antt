@@ -1,7 +1,8 @@
 -- One write after another, and one read after another, where the bytes are told.
-use Rattle.std.proofs.Common.{ℕ, ◌+◌, ◌<◌, ◌≡◌, List, ◌++◌, length, take, drop, Option, None, Some, IfSome, sym, ◌∙◌, ap, arith, append_assoc, length-append}
+use Rattle.std.proofs.Common.{ℕ, ◌+◌, ◌<◌, ◌≡◌, List, ◌++◌, ◌≤◌, ◌⊎◌, inr, length, take, drop, Option, None, Some, IfSome, sym, ◌∙◌, ap, arith, append_assoc, length-append}
 use Rattle.std.proofs.Math.Seq.{take-add, drop-append_seam}
 use Rattle.std.specs.Io.KnownBytes.{Appends, Consumes}
+use Rattle.ale_base.specs.Readings.{TookAtMost}
 
 -- the front of the bytes was appended, and then some of the rest
 pub appends-more : (old mid new : Option (List ℕ)) (bytes : List ℕ) (done count : ℕ)
@@ -45,3 +46,12 @@ consumes-too_long (Some all) (Some ys) (Some zs) bytes piece limit fault first s
       (let longer : length all ≡ length (bytes ++ piece) + length zs = ap length is ∙ length-append (bytes ++ piece) zs in omega arith),
       ap Some (consumed-front all (bytes ++ piece) zs (limit + 1) is taken),
     )
+
+-- no more bytes were consumed than the limit
+pub consumes-within : (content mid new : Option (List ℕ)) (bytes piece : List ℕ) (limit : ℕ) (first second : Type 0)
+    → IfSome content (λ all. Consumes (Some all) mid bytes) → Consumes mid new piece
+    → length bytes + length piece ≤ limit
+    → IfSome content (λ all. first ⊎ second ⊎ TookAtMost limit all new)
+consumes-within None mid new bytes piece limit first second taken more within = tt
+consumes-within (Some all) mid new bytes piece limit first second taken more within =
+    inr (inr (bytes ++ piece, (let len : length (bytes ++ piece) ≡ length bytes + length piece = length-append bytes piece in omega arith), consumes-more (Some all) mid new bytes piece taken more))

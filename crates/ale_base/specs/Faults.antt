@@ -1,5 +1,5 @@
--- Counts of faults: what it means that one rose.
-use Rattle.std.specs.Prelude.{ℕ, ◌+◌, ◌-◌, ◌^◌, ◌≤◌, min}
+-- Counts of faults: what it means that one rose, and that a call tells of it.
+use Rattle.std.specs.Prelude.{ℕ, ◌+◌, ◌-◌, ◌^◌, ◌<◌, ◌≤◌, min}
 
 -- one more, but a count at its last value stands still
 abbrev pub next_count : ℕ → ℕ
@@ -9,7 +9,9 @@ next_count count = min (count + 1) (2 ^ 64 - 1)
 abbrev pub Rose : ℕ → ℕ → Type 0
 Rose before now = next_count before ≤ now
 
--- the count never falls, and `fault` comes only where it rose
-pub record OnlyWhereRose (before now : ℕ) (fault : Type 0) : Type 0 where
+-- the count never falls; a call that answers with the fault made it rise, and a call that made it greater
+-- answers with the fault
+pub record ExactlyWhereRose (before now : ℕ) (fault : Type 0) : Type 0 where
   pub later : before ≤ now
   pub rose : fault → Rose before now
+  pub greater : before < now → fault

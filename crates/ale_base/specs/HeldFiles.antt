@@ -25,10 +25,11 @@ rest_of files (Some place) at = drop at (slice_index_or files place ([], [])).1
 abbrev pub is_listed : List ℕ → ℕ → Bool
 is_listed numbers call = list_any (λ n. n == call) numbers
 
--- files in memory as contracts see them: what is held, what is left of the chosen file, the numbers
--- of the calls that fail, the number of the next call, and the count of faults
+-- files in memory as contracts see them: what is held, whether one is chosen, what is left of it, the
+-- numbers of the calls that fail, the number of the next call, and the count of faults
 pub record HeldFiles : Type 0 where
   pub held : List NamedBytes
+  pub chosen : Bool
   pub left : List ℕ
   pub failing : List ℕ
   pub calls : ℕ

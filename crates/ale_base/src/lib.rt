@@ -12,6 +12,7 @@ pub mod output;
 pub mod reading;
 pub mod real_files;
 pub mod real_sink;
+pub mod system;
 pub mod writing;
 
 pub use fault::Failed;

@@ -19,7 +19,7 @@ pub struct MemoryFiles {
 }
 
 impl Model for MemoryFiles {
-    ghost use Rattle.std.specs.Prelude.{vec_len, ◌<◌};
+    ghost use Rattle.std.specs.Prelude.{vec_len, ◌<◌, is_some};
     ghost use Rattle.std.specs.Option.{ForSome};
     ghost use Rattle.ale_base.specs.HeldFiles.{HeldFiles, rest_of};
     ghost use Rattle.ale_base.specs.NamedBytes.{all_named};
@@ -29,6 +29,7 @@ impl Model for MemoryFiles {
     ghost view = { λ files. let held = all_named files.held.items in
         record {
           held = held;
+          chosen = is_some files.chosen;
           left = rest_of held files.chosen files.at;
           failing = files.failing.items;
           calls = files.calls;
@@ -39,13 +40,14 @@ impl Model for MemoryFiles {
 }
 
 impl MemoryFiles {
-    ghost use Rattle.std.specs.Prelude.{◌≡◌, ◌≢◌, ℕ, List, [], Some, unwrap_or, IsSome, IsOk, OnOk, OnErr};
+    ghost use Rattle.std.specs.Prelude.{◌≡◌, ◌≢◌, ℕ, false, List, [], Some, unwrap_or, IsSome, IsOk, OnOk, OnErr};
     ghost use Rattle.ale_base.specs.HeldFiles.{content_of, with_file};
 
     /// Holds no file, and fails at the calls whose numbers are in `failing`.
     pub fn new(alloc: Global, failing: Vec<u64>) -> MemoryFiles
         ensures { result ≡ record {
           held = [];
+          chosen = false;
           left = [];
           failing = failing.items;
           calls = 0;
@@ -92,16 +94,18 @@ impl MemoryFiles {
 }
 
 impl Files for MemoryFiles {
-    ghost use Rattle.std.specs.Prelude.{◌≡◌, ◌↔◌, ◌++◌, ⊤, ℕ, List, Option, None, Some, min, take, drop, length, IfSome, IfOk, OnOk, OnErr, IsErr, IsErrOf, ◌≢◌};
+    ghost use Rattle.std.specs.Prelude.{◌≡◌, ◌↔◌, ◌++◌, ⊤, ℕ, Bool, true, false, List, Option, None, Some, min, take, drop, length, IfSome, IfOk, OnOk, OnErr, IsErr, IsErrOf, ◌≢◌};
     ghost use Rattle.std.specs.Result.{is_err};
     ghost use Rattle.std.specs.Io.{ReadsAtMost};
     ghost use Rattle.std.specs.Io.KnownBytes.{ReadConsumes};
-    ghost use Rattle.ale_base.specs.Faults.{OnlyWhereRose, next_count};
+    ghost use Rattle.ale_base.specs.Faults.{ExactlyWhereRose, next_count};
     ghost use Rattle.ale_base.specs.HeldFiles.{content_of, is_listed, choose_fails};
 
     ghost content = { λ files. content_of files.held };
 
     ghost left = { λ files. Some files.left };
+
+    ghost is_chosen = { λ files. files.chosen };
 
     ghost may_choose = { λ _ _. ⊤ };
 
@@ -110,14 +114,17 @@ impl Files for MemoryFiles {
     fn choose(&mut self, name: &str) -> Result<(), ChooseError>
         ensures whole { OnOk result (IfSome (content_of self.old.held name.now)
             (λ bytes. Some self.new.left ≡ Some bytes)) }
+        ensures chosen { OnOk result (self.new.chosen ≡ true) }
+        ensures stays { OnErr result (Some self.new.left ≡ Some self.old.left) }
+        ensures chosen_stays { OnErr result (self.new.chosen ≡ self.old.chosen) }
         ensures content { content_of self.new.held ≡ content_of self.old.held }
-        ensures faults { OnlyWhereRose self.old.faults self.new.faults
+        ensures faults { ExactlyWhereRose self.old.faults self.new.faults
             (IsErrOf result ChooseError.Failed) }
         ensures memory { IsErrOf result ChooseError.NoMemory → self.new.faults ≡ self.old.faults }
         ensures fails { is_err result ≡ choose_fails self.old name.now }
         ensures no_memory { result ≢ Err ChooseError.NoMemory }
         ensures ok { OnOk result (IfSome (content_of self.old.held name.now) (λ bytes.
-            self.new ≡ record self.old { left = bytes; calls = next_count self.old.calls })) }
+            self.new ≡ record self.old { chosen = true; left = bytes; calls = next_count self.old.calls })) }
         ensures err { OnErr result (self.new ≡ record self.old {
           calls = next_count self.old.calls;
           faults = next_count self.old.faults;
@@ -141,8 +148,10 @@ impl Files for MemoryFiles {
     fn read(&mut self, buf: &mut [u8]) -> Result<usize, Failed>
         ensures bound { ReadsAtMost result buf.new }
         ensures bytes { ReadConsumes (Some self.old.left) (Some self.new.left) result buf.new }
+        ensures chosen { self.new.chosen ≡ self.old.chosen }
+        ensures unchosen { self.old.chosen ≡ false → IfOk result (λ count. count ≡ 0) }
         ensures content { content_of self.new.held ≡ content_of self.old.held }
-        ensures faults { OnlyWhereRose self.old.faults self.new.faults (IsErr result) }
+        ensures faults { ExactlyWhereRose self.old.faults self.new.faults (IsErr result) }
         ensures fails { is_err result ≡ is_listed self.old.failing self.old.calls }
         ensures ok { IfOk result (λ count. self.new ≡ record self.old {
           left = drop count self.old.left;

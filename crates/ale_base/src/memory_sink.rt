@@ -80,7 +80,7 @@ impl Sink for MemorySink {
     ghost use Rattle.std.specs.Result.{is_err};
     ghost use Rattle.std.specs.Io.{WritesAtMost};
     ghost use Rattle.std.specs.Io.KnownBytes.{WriteAppends};
-    ghost use Rattle.ale_base.specs.Faults.{OnlyWhereRose, next_count};
+    ghost use Rattle.ale_base.specs.Faults.{ExactlyWhereRose, next_count};
     ghost use Rattle.ale_base.specs.MemorySinks.{taken_len, write_fails};
 
     ghost written = { λ sink. Some sink.bytes };
@@ -91,7 +91,7 @@ impl Sink for MemorySink {
         ensures bound { WritesAtMost result piece.now }
         ensures some { IfOk result (λ count. 0 < length piece.now → 0 < count) }
         ensures bytes { WriteAppends (Some self.old.bytes) (Some self.new.bytes) result piece.now }
-        ensures faults { OnlyWhereRose self.old.faults self.new.faults (IsErr result) }
+        ensures faults { ExactlyWhereRose self.old.faults self.new.faults (IsErr result) }
         ensures fails { is_err result ≡ write_fails self.old piece.now }
         ensures count { IfOk result (λ count. count ≡ taken_len self.old piece.now) }
         ensures ok { IfOk result (λ count. self.new ≡ record self.old {

@@ -2,7 +2,7 @@
 ghost use Rattle.std.specs.Prelude.{◌≡◌, ◌<◌, ℕ, List, Option, length, IfOk, IsErr};
 ghost use Rattle.std.specs.Io.{WritesAtMost};
 ghost use Rattle.std.specs.Io.KnownBytes.{WriteAppends};
-ghost use Rattle.ale_base.specs.Faults.{OnlyWhereRose};
+ghost use Rattle.ale_base.specs.Faults.{ExactlyWhereRose};
 
 use crate::fault::Failed;
 
@@ -20,5 +20,5 @@ pub trait Sink {
         ensures bound { WritesAtMost result piece.now }
         ensures some { IfOk result (λ count. 0 < length piece.now → 0 < count) }
         ensures bytes { WriteAppends (written self.old) (written self.new) result piece.now }
-        ensures faults { OnlyWhereRose (faults self.old) (faults self.new) (IsErr result) };
+        ensures faults { ExactlyWhereRose (faults self.old) (faults self.new) (IsErr result) };
 }

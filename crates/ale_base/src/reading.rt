@@ -1,6 +1,7 @@
 //! Reading a whole file.
-ghost use Rattle.std.specs.Prelude.{◌≡◌, ◌↔◌, ◌+◌, ◌^◌, ◌<◌, ◌≤◌, ℕ, List, [], Some, drop, length, vec_len, IfSome, IfOk, OnOk, IsErrOf};
-ghost use Rattle.ale_base.specs.Faults.{OnlyWhereRose};
+ghost use Rattle.std.specs.Prelude.{◌≡◌, ◌↔◌, ◌⊎◌, ◌+◌, ◌^◌, ◌<◌, ◌≤◌, ℕ, List, [], Some, drop, length, vec_len, IfSome, IfOk, OnOk, IsErrOf};
+ghost use Rattle.ale_base.specs.Faults.{ExactlyWhereRose};
+ghost use Rattle.ale_base.specs.Readings.{TookAtMost};
 
 use crate::fault::Failed;
 use crate::input::{ChooseError, Files};
@@ -63,8 +64,8 @@ const CHUNK: usize = 65_536;
 /// Reads the whole file of this name, to its end. `limit` is the most bytes that the file may have.
 ///
 /// # Errors
-/// `Failed` where a call of the files failed, `TooLong` where `limit + 1` bytes were taken, and
-/// `NoMemory` where memory ran out.
+/// `Failed` exactly where a call of the files failed, `TooLong` exactly where `limit + 1` bytes were taken,
+/// and `NoMemory` where memory ran out.
 pub fn read_all<F: Files>(
     alloc: Global,
     files: &mut F,
@@ -81,9 +82,12 @@ pub fn read_all<F: Files>(
     ensures too_long { IfSome (F.content files.old name.now) (λ all.
         IsErrOf result ReadError.TooLong → (limit < length all)
         × (F.left files.new ≡ Some (drop (limit + 1) all))) }
+    // At every other answer no more than `limit` bytes were taken; where the file was not chosen none were.
+    ensures within { IfSome (F.content files.old name.now) (λ all. IsErrOf result ReadError.TooLong
+        ⊎ (F.left files.new ≡ F.left files.old) ⊎ TookAtMost limit all (F.left files.new)) }
     ensures content { F.content files.new ≡ F.content files.old }
     ensures names { (other : List ℕ) → F.may_choose files.new other ↔ F.may_choose files.old other }
-    ensures faults { OnlyWhereRose (F.faults files.old) (F.faults files.new)
+    ensures faults { ExactlyWhereRose (F.faults files.old) (F.faults files.new)
         (IsErrOf result ReadError.Failed) }
 {
     files.choose(name)?;

@@ -2,10 +2,11 @@
 ghost use Rattle.std.specs.Prelude.{◌≡◌, ◌<◌, None, length, IfOk, OnOk, OnErr, IsErr};
 ghost use Rattle.std.specs.Io.{WritesAtMost};
 ghost use Rattle.std.specs.Io.KnownBytes.{WriteAppends};
-ghost use Rattle.ale_base.specs.Faults.{OnlyWhereRose, next_count};
+ghost use Rattle.ale_base.specs.Faults.{ExactlyWhereRose, next_count};
 
 use crate::fault::Failed;
 use crate::output::Sink;
+use crate::system::taken;
 use std::io::Print;
 
 /// The standard output. What was written is not told.
@@ -33,13 +34,13 @@ impl<'a, R: Print> Sink for RealSink<'a, R> {
         ensures bound { WritesAtMost result piece.now }
         ensures told { WriteAppends None None result piece.now }
         ensures some { IfOk result (λ count. 0 < length piece.now → 0 < count) }
-        ensures faults { OnlyWhereRose self.old.faults self.new.faults (IsErr result) }
+        ensures faults { ExactlyWhereRose self.old.faults self.new.faults (IsErr result) }
         ensures ok { OnOk result (self.new.faults ≡ self.old.faults) }
         ensures failed { OnErr result (self.new.faults ≡ next_count self.old.faults) }
     {
-        match self.rt.write_some(piece) {
-            Ok(count) if count > 0 || piece.is_empty() => Ok(count),
-            _ => {
+        match taken(self.rt.write_some(piece), piece.len()) {
+            Some(count) => Ok(count),
+            None => {
                 self.faults = self.faults.saturating_add(1);
                 Err(Failed)
             }

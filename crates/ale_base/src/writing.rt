@@ -1,7 +1,7 @@
 //! Writing all of a text.
 ghost use Rattle.std.specs.Prelude.{◌≡◌, ◌<◌, ℕ, take, length, OnOk, OnErr, IsErr};
 ghost use Rattle.std.specs.Io.KnownBytes.{Appends};
-ghost use Rattle.ale_base.specs.Faults.{OnlyWhereRose};
+ghost use Rattle.ale_base.specs.Faults.{ExactlyWhereRose};
 
 use crate::fault::Failed;
 use crate::output::Sink;
@@ -29,7 +29,7 @@ pub fn write_all<W: Sink>(sink: &mut W, bytes: &[u8]) -> Result<(), WriteError>
     ensures whole { OnOk result (Appends (W.written sink.old) (W.written sink.new) bytes.now) }
     ensures part { OnErr result ((count : ℕ) × (count < length bytes.now)
         × Appends (W.written sink.old) (W.written sink.new) (take count bytes.now)) }
-    ensures faults { OnlyWhereRose (W.faults sink.old) (W.faults sink.new) (IsErr result) }
+    ensures faults { ExactlyWhereRose (W.faults sink.old) (W.faults sink.new) (IsErr result) }
 {
     let mut done = 0;
     while done < bytes.len() {

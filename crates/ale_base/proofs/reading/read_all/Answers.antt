@@ -1,6 +1,7 @@
-use Rattle.std.proofs.Common.{ℕ, ◌≡◌, ◌≤◌, ◌++◌, ◌∙◌, List, Some, IfSome, length, take, sym, subst, arith, length-take}
+use Rattle.std.proofs.Common.{ℕ, true, false, ◌≡◌, ◌≤◌, ◌++◌, ◌∙◌, List, Some, IfSome, length, take, sym, subst, arith, length-take}
 use Rattle.std.specs.Io.KnownBytes.{Consumes}
-use Rattle.ale_base.proofs.Streams.{consumes-too_long, consumes-more}
+use Rattle.ale_base.proofs.Faults.{stays}
+use Rattle.ale_base.proofs.Streams.{consumes-too_long, consumes-more, consumes-within}
 use Rattle.ale_base.proofs.reading.read_all.Goals as goal
 
 pub returns-then-len-count-clause-too_long : goal.returns-then-len-count-clause-too_long
@@ -22,5 +23,11 @@ chunks-preserved g c =
       subst told (sym grown) (consumes-more _ _ _ _ _ c.chunks.invariant.2 c.in_ok-count.ensures.bytes.0),
       c.in_ok-count.ensures.content ∙ c.chunks.invariant.3,
       (λ (other : List ℕ). (λ h. (c.chunks.invariant.4 other).0 ((c.in_ok-count.ensures.names other).0 h), λ h. (c.in_ok-count.ensures.names other).1 ((c.chunks.invariant.4 other).1 h))),
-      omega (arith, c.chunks.invariant.5, c.in_ok-count.ensures.faults.later),
+      stays _ _ _ c.in_ok-count.ensures.faults (λ (h : false ≡ true). cc) ∙ c.chunks.invariant.5,
     )
+
+pub returns-in_err-extend_from_slice-clause-within : goal.returns-in_err-extend_from_slice-clause-within
+returns-in_err-extend_from_slice-clause-within g c =
+    let counted : c.in_ok-count.count ≡ length (take c.in_ok-count.count c.read.new.buf) = c.in_ok-count.ensures.bound.1 in
+    consumes-within _ _ _ _ _ _ _ _ c.chunks.invariant.2 c.in_ok-count.ensures.bytes.0
+    (omega (arith, counted, c.chunks.bytes.ok, c.len-in-chunks-2.ensures))
