@@ -3,6 +3,8 @@
 //! whole file and write all of a text.
 #![tactic(auto)]
 
+#[cfg(test)]
+mod edge_tests;
 pub mod fault;
 pub mod held_file;
 pub mod input;

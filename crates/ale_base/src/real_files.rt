@@ -15,7 +15,7 @@ use std::{fs, rt};
 pub struct RealFiles<'a, R: rt::Files> {
     rt: &'a R,
     chosen: Option<R::File>,
-    faults: u64,
+    pub(crate) faults: u64,
 }
 
 impl<'a, R: rt::Files> RealFiles<'a, R> {

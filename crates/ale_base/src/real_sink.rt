@@ -13,7 +13,7 @@ use std::io::Print;
 #[derive(Drop)]
 pub struct RealSink<'a, R: Print> {
     rt: &'a R,
-    faults: u64,
+    pub(crate) faults: u64,
 }
 
 impl<'a, R: Print> RealSink<'a, R> {

@@ -13,7 +13,7 @@ use Rattle.ale_declared.proofs.ListLemmas.{upto_has, upto_below, flat_map_has, H
 use Rattle.ale_hierarchy.proofs.PathLemmas.{HasNoCycle, EndsBelow, Through_leads, leads_through_from}
 use Rattle.ale_hierarchy.proofs.OrderLemmas.{IsAbove_inside, IsAbove_from_inside, is_above_from}
 use Rattle.ale_hierarchy.proofs.JoinLemmas.{HasJoins, join_to}
-use Rattle.ale_hierarchy.proofs.AppropLemmas.{HasRestrictions, IsApprop_inside, approp_to}
+use Rattle.ale_hierarchy.proofs.AppropLemmas.{HasRestrictions, IsRestriction_inside, approp_to}
 
 -- no edges lead back where the test finds none that do
 pub HasNoCycle-from : (edges : List (ℕ × ℕ)) (n : ℕ) → EndsBelow edges n → ((t : ℕ) → t < n → leads_through edges n t t ≡ false) → HasNoCycle edges
@@ -32,7 +32,7 @@ pub HasRestrictions-from : (d : Declared) → IsWellNumbered d → ((f t : ℕ) 
 HasRestrictions-from d w test f t m below a =
     let listed : f < length d.features = subst (λ z. z < length d.features) a.feature (w.mentions m a.mentioned).1 in
     let found = test f t m listed below a in
-    (found.0, (approp_to d f t found.0 w found.1).restriction)
+    (found.0, approp_to d f t found.0 w found.1)
 
 -- the value of an `option_map`
 option_map_some : {A B : Type 0} (g : A → B) (o : Option A) (y : B) → option_map g o ≡ Some y → (x : A) × (o ≡ Some x) × (y ≡ g x)
@@ -68,7 +68,7 @@ Has-restriction_edges d f t r listed below h =
 pub EndsBelow-restriction_edges : (d : Declared) → IsWellNumbered d → EndsBelow (restriction_edges d) (length d.types)
 EndsBelow-restriction_edges d w t r h =
     let by = restriction_edges_has d t r h in
-    (by.2, (IsApprop_inside d by.0 t r w (approp_to d by.0 t r w by.3)).2)
+    (by.2, (IsRestriction_inside d by.0 t r w (approp_to d by.0 t r w by.3)).2)
 
 -- extensional types are last where the test finds no other type below one
 pub ext_last-from : (d : Declared) → IsWellNumbered d → ((t u : ℕ) → Has d.ext t → u < length d.types → is_above d t u ≡ true → t ≡ u) → (t u : ℕ) → Has d.ext t → IsAbove d t u → t ≡ u

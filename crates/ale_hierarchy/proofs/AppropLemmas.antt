@@ -15,12 +15,6 @@ use Rattle.ale_declared.proofs.ListLemmas.{Has-filter, filter_has, Has-map, map_
 use Rattle.ale_hierarchy.proofs.OrderLemmas.{IsAbove-trans, IsAbove-antisym, IsAbove_inside, is_above_to, is_above_from}
 use Rattle.ale_hierarchy.proofs.JoinLemmas.{IsCommon, IsJoinOf, IsJoinOf_least, join_of_to, join_of_from, join_of_none}
 
--- the feature is appropriate to the type: a mention applies, and r is the join of all that do
-pub record IsApprop (d : Declared) (f t r : ℕ) : Type 0 where
-  pub mention : Mention
-  pub applies : Applies d f t mention
-  pub restriction : IsRestriction d f t r
-
 -- restrictions that apply together have a join
 abbrev pub HasRestrictions : Declared → Type 0
 HasRestrictions d = (f t : ℕ) (m : Mention) → t < length d.types → Applies d f t m → (r : ℕ) × IsRestriction d f t r
@@ -57,6 +51,8 @@ IsCommon-restrictions d f t c h r k =
 -- the join of the list is the restriction, where a mention applies
 pub IsRestriction-from_list : (d : Declared) (f t r : ℕ) (m : Mention) → IsWellNumbered d → Applies d f t m → IsJoinOf d (restrictions d f t) r → IsRestriction d f t r
 IsRestriction-from_list d f t r m w a h = record {
+  mention = m;
+  applies = a;
   all = common_restrictions d f t r h.common w;
   least = λ c common. IsJoinOf_least d (restrictions d f t) m.restriction r c w h (Has-restrictions d f t m w a) (IsCommon-restrictions d f t c common);
 }
@@ -80,40 +76,36 @@ join_of_some_is d [] s h = absurd h
 join_of_some_is d (r ∷ rs) s h = refl
 
 -- what `approp` finds is the join of the restrictions that apply
-pub approp_to : (d : Declared) (f t r : ℕ) → IsWellNumbered d → approp d f t ≡ Some r → IsApprop d f t r
+pub approp_to : (d : Declared) (f t r : ℕ) → IsWellNumbered d → approp d f t ≡ Some r → IsRestriction d f t r
 unfolding approp
 approp_to d f t r w h =
     let some = join_of_some_to d (restrictions d f t) r h in
     let made = restrictions_has d f t some.0.0 some.0.1 in
-    record {
-      mention = made.0;
-      applies = made.1;
-      restriction = IsRestriction-from_list d f t r made.0 w made.1 (join_of_to d (restrictions d f t) r w some.1);
-    }
+    IsRestriction-from_list d f t r made.0 w made.1 (join_of_to d (restrictions d f t) r w some.1)
 
 -- `approp` finds the join of the restrictions that apply
-pub approp_from : (d : Declared) (f t r : ℕ) → IsWellNumbered d → HasNoCycle d.edges → IsApprop d f t r → approp d f t ≡ Some r
+pub approp_from : (d : Declared) (f t r : ℕ) → IsWellNumbered d → HasNoCycle d.edges → IsRestriction d f t r → approp d f t ≡ Some r
 unfolding approp
 approp_from d f t r w free h =
     join_of_some_is d (restrictions d f t) h.mention.restriction (Has-restrictions d f t h.mention w h.applies)
-    ∙ join_of_from d (restrictions d f t) r w free (IsJoinOf-restrictions d f t r h.mention w h.applies h.restriction)
+    ∙ join_of_from d (restrictions d f t) r w free (IsJoinOf-restrictions d f t r h.mention w h.applies h)
 
 -- where `approp` finds nothing, no mention applies or those that do have no join
-pub approp_none : (d : Declared) (f t r : ℕ) → IsWellNumbered d → approp d f t ≡ None → IsApprop d f t r → ⊥
+pub approp_none : (d : Declared) (f t r : ℕ) → IsWellNumbered d → approp d f t ≡ None → IsRestriction d f t r → ⊥
 unfolding approp
 approp_none d f t r w h a =
     join_of_none d (restrictions d f t) r w
     (sym (join_of_some_is d (restrictions d f t) a.mention.restriction (Has-restrictions d f t a.mention w a.applies)) ∙ h)
-    (IsJoinOf-restrictions d f t r a.mention w a.applies a.restriction)
+    (IsJoinOf-restrictions d f t r a.mention w a.applies a)
 
 -- the feature, the type and the restriction are there
-pub IsApprop_inside : (d : Declared) (f t r : ℕ) → IsWellNumbered d → IsApprop d f t r → (f < length d.features) × (t < length d.types) × (r < length d.types)
-IsApprop_inside d f t r w h =
+pub IsRestriction_inside : (d : Declared) (f t r : ℕ) → IsWellNumbered d → IsRestriction d f t r → (f < length d.features) × (t < length d.types) × (r < length d.types)
+IsRestriction_inside d f t r w h =
     let m : Mention = h.mention in
     let ends = w.mentions m h.applies.mentioned in (
       subst (λ z. z < length d.features) h.applies.feature ends.1,
       IsAbove_inside d m.at t w h.applies.above ends.0,
-      IsAbove_inside d m.restriction r w (h.restriction.all m h.applies) ends.2,
+      IsAbove_inside d m.restriction r w (h.all m h.applies) ends.2,
     )
 
 -- restrictions are unique
@@ -129,14 +121,14 @@ pub approp_there : (d : Declared) (f t : ℕ) (m : Mention) → IsWellNumbered d
 approp_there d f t m w free joins below a =
     let found = joins f t m below a in
     let r : IsRestriction d f t found.0 = found.1 in
-    (found.0, approp_from d f t found.0 w free (record { mention = m; applies = a; restriction = r }))
+    (found.0, approp_from d f t found.0 w free r)
 
 -- where `approp` finds nothing, no mention applies, if restrictions that apply together have joins
 pub approp_nowhere : (d : Declared) (f t : ℕ) (m : Mention) → IsWellNumbered d → HasRestrictions d → t < length d.types → approp d f t ≡ None → Applies d f t m → ⊥
 approp_nowhere d f t m w joins below h a =
     let found = joins f t m below a in
     let r : IsRestriction d f t found.0 = found.1 in
-    approp_none d f t found.0 w h (record { mention = m; applies = a; restriction = r })
+    approp_none d f t found.0 w h r
 
 -- restrictions get narrower along the order
 pub approp-along : (d : Declared) (f t u r : ℕ) → IsWellNumbered d → HasNoCycle d.edges → HasRestrictions d → u < length d.types → IsAbove d t u → approp d f t ≡ Some r → (q : ℕ) × (approp d f u ≡ Some q) × IsAbove d r q
@@ -146,7 +138,7 @@ approp-along d f t u r w free joins below path h =
     let q : ℕ = found.0 in
     let there : approp d f u ≡ Some q = found.1 in
     let b = approp_to d f u q w there in
-    (q, there, a.restriction.least q (λ m k. b.restriction.all m (Applies_along d f t u m path k)))
+    (q, there, a.least q (λ m k. b.all m (Applies_along d f t u m path k)))
 
 -- a type in the list mentions the feature
 pub mentioning_has : (d : Declared) (f t : ℕ) → Has (mentioning d f) t → (m : Mention) × Has d.mentions m × (m.feature ≡ f) × (t ≡ m.at)
@@ -225,7 +217,7 @@ first_introduces_none d f t w h k =
     (is_most_general_from d f t w k)
 
 -- the type that introduces a feature is above those to which it is appropriate
-pub Introduces-above : (d : Declared) (f t i r : ℕ) → Introduces d f i → IsApprop d f t r → IsAbove d i t
+pub Introduces-above : (d : Declared) (f t i r : ℕ) → Introduces d f i → IsRestriction d f t r → IsAbove d i t
 Introduces-above d f t i r h a =
     IsAbove-trans d i a.mention.at t (h.most_general a.mention a.applies.mentioned a.applies.feature) a.applies.above
 

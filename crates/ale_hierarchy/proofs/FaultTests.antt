@@ -102,8 +102,7 @@ Clashes-from d t f w free h =
     record {
       mention = m.0;
       applies = m.1;
-      none = λ r is. not_both (approp d f t) r (none_at (approp d f t) parts.1)
-          (approp_from d f t r w free (record { mention = m.0; applies = m.1; restriction = is }));
+      none = λ r is. not_both (approp d f t) r (none_at (approp d f t) parts.1) (approp_from d f t r w free is);
     }
   where
     not_both : (o : Option ℕ) (x : ℕ) → o ≡ None → o ≡ Some x → ⊥
@@ -113,7 +112,7 @@ Clashes_to : (d : Declared) (t f : ℕ) → IsWellNumbered d → Clashes d t f �
 Clashes_to d t f w c =
     and_from (has_any (restrictions d f t)) (is_none (approp d f t))
     (has_any_from (restrictions d f t) c.mention.restriction (Has-restrictions d f t c.mention w c.applies))
-    (none_of (approp d f t) (none_from (approp d f t) (λ r e. c.none r (approp_to d f t r w e).restriction)))
+    (none_of (approp d f t) (none_from (approp d f t) (λ r e. c.none r (approp_to d f t r w e))))
 
 pub clash_decides : (d : Declared) (t f : ℕ) → IsWellNumbered d → HasNoCycle d.edges → Decides (clashes d t f) (Clashes d t f)
 clash_decides d t f w free = (Clashes-from d t f w free, Clashes_to d t f w)

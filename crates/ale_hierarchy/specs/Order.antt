@@ -25,8 +25,10 @@ pub record Applies (d : Declared) (f t : ℕ) (m : Mention) : Type 0 where
   pub feature : m.feature ≡ f
   pub above : IsAbove d m.at t
 
--- r is the join of all restrictions on the feature that apply at the type
+-- some restriction on the feature applies at the type, and r is the join of all that do
 pub record IsRestriction (d : Declared) (f t r : ℕ) : Type 0 where
+  pub mention : Mention
+  pub applies : Applies d f t mention
   pub all : (m : Mention) → Applies d f t m → IsAbove d m.restriction r
   pub least : (c : ℕ) → ((m : Mention) → Applies d f t m → IsAbove d m.restriction c) → IsAbove d r c
 

@@ -5,7 +5,7 @@ use Rattle.std.proofs.lemmas.Bool.{both_ways, false≢true, and_parts, and_from,
 use Rattle.ale_relation.specs.Has.{Has}
 use Rattle.ale_declared.specs.Lists.{upto, first, every}
 use Rattle.ale_declared.specs.Declarations.{Declared, declared}
-use Rattle.ale_hierarchy.specs.Order.{Applies, Introduces, is_above, leads_through, join_of, join, restrictions, mentioning, approp, size_to, size}
+use Rattle.ale_hierarchy.specs.Order.{Applies, Introduces, is_above, leads_through, join_of, join, restrictions, mentioning, approp, is_ext, size_to, size}
 use Rattle.ale_hierarchy.specs.Limits.{most_nodes}
 use Rattle.ale_hierarchy.specs.Accepted.{IsAccepted, restriction_edges}
 use Rattle.ale_declared.specs.Numbering.{IsWellNumbered}
@@ -14,7 +14,8 @@ use Rattle.ale_declared.specs.declared.decl.Mention.{Mention}
 use Rattle.ale_declared.specs.declared.decl.SigDecl.{SigDecl}
 use Rattle.ale_declared.specs.declared.decl.SigDecl.TheVariants.{Kind, Ext}
 use Rattle.ale_declared.proofs.ListLemmas.{upto_has, every_at}
-use Rattle.ale_hierarchy.proofs.AppropLemmas.{Has-restrictions, first_introduces}
+use Rattle.ale_hierarchy.proofs.AppropLemmas.{Has-restrictions, IsRestriction_inside, approp_to, first_introduces}
+use Rattle.ale_hierarchy.proofs.JoinLemmas.{none_from}
 use Rattle.ale_signature.proofs.SizeLemmas.{size_to-size}
 use Rattle.ale_hierarchy.proofs.AcceptedLemmas.{HasNoCycle-from, HasJoins-from, HasRestrictions-from, EndsBelow-restriction_edges, ext_last-from}
 
@@ -193,19 +194,43 @@ accepted = record {
   small = size_there;
 }
 
+-- `bot` has no feature
+bot_test : approp small 0 0 ≡ None
+unfolding small approp join_of is_above leads_through
+bot_test = refl
+
+bot_lacks : (f r : ℕ) → f < 1 → approp small f 0 ≡ Some r → ⊥
+bot_lacks zero r below e = not_both (approp small 0 0) r bot_test e
+  where
+    not_both : (o : Option ℕ) (x : ℕ) → o ≡ None → o ≡ Some x → ⊥
+    not_both o x p q = absurd cc
+bot_lacks (suc f) r below e = absurd (omega arith)
+
+bot_plain : (f : ℕ) → approp small f 0 ≡ None
+unfolding small
+bot_plain f = none_from (approp small f 0) (λ r e. bot_lacks f r (IsRestriction_inside small f 0 r well_numbered (approp_to small f 0 r well_numbered e)).0 e)
+
 -- the facts of a signature
 record IsGood (d : Declared) : Type 0 where
   numbered : IsWellNumbered d
   accepted : IsAccepted d
   featured : 0 < length d.features
+  plain : (f : ℕ) → approp d f 0 ≡ None
+  not_ext : is_ext d 0 ≡ false
 
 -- the example has them
 small_good : IsGood small
 unfolding small
-small_good = record { numbered = well_numbered; accepted = accepted; featured = omega arith }
+small_good = record {
+  numbered = well_numbered;
+  accepted = accepted;
+  featured = omega arith;
+  plain = bot_plain;
+  not_ext = refl;
+}
 
 -- some declarations with a feature are accepted
 pub some_is_accepted : SomeIsAccepted
 some_is_accepted =
     let good : IsGood (declared written) = subst IsGood (sym declared-written) small_good in
-    (written, good.numbered, good.accepted, good.featured)
+    (written, good.numbered, good.accepted, good.featured, good.plain, good.not_ext)

@@ -9,7 +9,7 @@ use Rattle.ale_declared.specs.Numbering.{IsWellNumbered}
 use Rattle.ale_declared.proofs.ListLemmas.{is_among_has, sum_over_same}
 use Rattle.ale_hierarchy.proofs.OrderLemmas.{IsAbove-trans, IsAbove_inside, is_above_to, is_above_from, above_all, rank-less}
 use Rattle.ale_hierarchy.proofs.JoinLemmas.{join_to, join_there}
-use Rattle.ale_hierarchy.proofs.AppropLemmas.{IsApprop_inside, approp_to, approp_there, approp-along, intro_is, Introduces-above, Introduces_inside, Applies-introduces}
+use Rattle.ale_hierarchy.proofs.AppropLemmas.{IsRestriction_inside, approp_to, approp_there, approp-along, intro_is, Introduces-above, Introduces_inside, Applies-introduces}
 use Rattle.ale_signature.proofs.SizeLemmas.{size_is, size_at-is}
 
 -- `intro` introduces the feature
@@ -35,14 +35,14 @@ lawful d w a = record {
       is_above_from d z c w ((join_to d x y z w h).1.least c (is_above_to d x c p) (is_above_to d y c q));
   join_there = λ x y c below p q.
       join_there d x y c w a.no_cycle a.joins below (is_above_to d x c p) (is_above_to d y c q);
-  approp_inside = λ f t r h. let ends = IsApprop_inside d f t r w (approp_to d f t r w h) in (ends.0, ends.2);
+  approp_inside = λ f t r h. let ends = IsRestriction_inside d f t r w (approp_to d f t r w h) in (ends.0, ends.2);
   approp_along = λ f t u r below p h.
       let found = approp-along d f t u r w a.no_cycle a.restrictions_join below (is_above_to d t u p) h in
       (found.0, found.1, is_above_from d r found.0 w found.2);
   approp_intro = λ f t r h.
       let here_r = approp_to d f t r w h in
       is_above_from d (intro d f) t w
-      (Introduces-above d f t (intro d f) r (Introduces-intro d f w a (IsApprop_inside d f t r w here_r).0) here_r);
+      (Introduces-above d f t (intro d f) r (Introduces-intro d f w a (IsRestriction_inside d f t r w here_r).0) here_r);
   intro_inside = λ f h. Introduces_inside d f (intro d f) w (Introduces-intro d f w a h);
   intro_there = λ f t h below p.
       let i = Introduces-intro d f w a h in

@@ -26,7 +26,7 @@ none_found d a b (Some j) w accepted inside e = tt
 -- the restriction that applies, and that there is none
 pub restriction_found : (d : Declared) (f t : ℕ) (r : Option ℕ) → IsWellNumbered d → r ≡ approp d f t → IfSome r (λ r. IsRestriction d f t r)
 restriction_found d f t None w e = tt
-restriction_found d f t (Some r) w e = (approp_to d f t r w (sym e)).restriction
+restriction_found d f t (Some r) w e = approp_to d f t r w (sym e)
 
 pub no_restriction : (d : Declared) (f t : ℕ) (r : Option ℕ) → IsWellNumbered d → IsAccepted d → t < length d.types → r ≡ approp d f t → IfNone r ((m : Mention) → Applies d f t m → ⊥)
 no_restriction d f t None w accepted inside e = λ m a. approp_nowhere d f t m w accepted.restrictions_join inside (sym e) a

@@ -3,9 +3,13 @@ use Rattle.std.proofs.Common.{◌≡◌, sym, ap, ◌<◌, refl, ℕ, zero, suc,
 use Rattle.ale_declared.specs.Lists.{sum_over}
 use Rattle.ale_declared.specs.Declarations.{Declared}
 use Rattle.ale_hierarchy.specs.Hierarchy.{size_at}
-use Rattle.ale_hierarchy.specs.Order.{all_features, approp, if_there, size_to, size, hierarchy}
-use Rattle.ale_hierarchy.specs.Limits.{most_nodes}
-use Rattle.ale_declared.proofs.ListLemmas.{le-sum_over, sum_over_same, sum_over-le, upto_has}
+use Rattle.ale_hierarchy.specs.Order.{all_features, approp, leads_through, if_there, size_to, size, hierarchy}
+use Rattle.ale_hierarchy.specs.Accepted.{restriction_edges}
+use Rattle.ale_hierarchy.specs.Limits.{most_types, most_nodes}
+use Rattle.ale_declared.specs.Numbering.{IsWellNumbered}
+use Rattle.ale_hierarchy.proofs.PathLemmas.{HasNoCycle, led, led-less}
+use Rattle.ale_hierarchy.proofs.AcceptedLemmas.{Has-restriction_edges, EndsBelow-restriction_edges}
+use Rattle.ale_declared.proofs.ListLemmas.{le-sum_over, sum_over_same, sum_over-le, upto_has, upto_below, length-filter-upto-le}
 
 -- measures that agree up to n agree on what is there
 if_there_same : (f g : ℕ → ℕ) (n : ℕ) (o : Option ℕ) → ((r : ℕ) → g r ≤ n → f r ≡ g r) → if_there g o ≤ n → if_there f o ≡ if_there g o
@@ -83,3 +87,34 @@ pub size_at-is : (d : Declared) (o : Option ℕ) → size_at (hierarchy d) o ≡
 unfolding hierarchy
 size_at-is d None = refl
 size_at-is d (Some r) = refl
+
+-- ---- where restrictions never lead back
+
+-- what is filled in at one feature, counted one deeper
+settled_part : (d : Declared) (n t f : ℕ) (o : Option ℕ) → approp d f t ≡ o → ((r : ℕ) → approp d f t ≡ Some r → size_to d (suc n) r ≡ size_to d n r) → if_there (size_to d (suc n)) o ≡ if_there (size_to d n) o
+settled_part d n t f None e later = refl
+settled_part d n t f (Some r) e later = later r e
+
+-- counted deeper than restrictions lead the size stays the same
+size_to-settled : (d : Declared) (n t : ℕ) → IsWellNumbered d → HasNoCycle (restriction_edges d) → t < length d.types
+    → led (restriction_edges d) (length d.types) t < n → size_to d (suc n) t ≡ size_to d n t
+size_to-settled d zero t w free inside less = absurd (omega arith)
+size_to-settled d (suc n) t w free inside less =
+    ap suc (sum_over_same (λ f. if_there (size_to d (suc n)) (approp d f t)) (λ f. if_there (size_to d n) (approp d f t)) (all_features d)
+    (λ f there. settled_part d n t f (approp d f t) refl (λ r e.
+    let edge = Has-restriction_edges d f t r (upto_below (length d.features) f there) inside e in
+    let fewer : led (restriction_edges d) (length d.types) r < led (restriction_edges d) (length d.types) t =
+    led-less (restriction_edges d) (length d.types) t r (EndsBelow-restriction_edges d w) free edge in
+    size_to-settled d n r w free (EndsBelow-restriction_edges d w t r edge).1 (omega arith))))
+
+size_to-adds_up : (d : Declared) (n t : ℕ) → IsWellNumbered d → HasNoCycle (restriction_edges d) → t < length d.types
+    → length d.types < n → size_to d n t ≡ suc (sum_over (λ f. if_there (size_to d n) (approp d f t)) (all_features d))
+size_to-adds_up d n t w free inside more =
+    let few : led (restriction_edges d) (length d.types) t ≤ length d.types = length-filter-upto-le (λ u. leads_through (restriction_edges d) (length d.types) t u) (length d.types) in
+    sym (size_to-settled d n t w free inside (omega arith))
+
+-- within the limit of types no restrictions lead deeper than sizes are counted
+pub size-adds_up : (d : Declared) (t : ℕ) → IsWellNumbered d → HasNoCycle (restriction_edges d) → length d.types ≤ most_types → t < length d.types
+    → size d t ≡ suc (sum_over (λ f. if_there (size d) (approp d f t)) (all_features d))
+unfolding size
+size-adds_up d t w free few inside = size_to-adds_up d (suc most_nodes) t w free inside (omega (arith, few))

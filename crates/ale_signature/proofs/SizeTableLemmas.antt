@@ -14,7 +14,7 @@ use Rattle.ale_hierarchy.specs.Accepted.{restriction_edges}
 use Rattle.ale_declared.specs.Numbering.{IsWellNumbered}
 use Rattle.ale_hierarchy.specs.Stages.{IsOrdered, TellsSizes, KnowsTo, IsUnknown}
 use Rattle.ale_declared.proofs.ListLemmas.{upto_below, filter_has}
-use Rattle.ale_hierarchy.proofs.AppropLemmas.{IsApprop_inside, approp_to}
+use Rattle.ale_hierarchy.proofs.AppropLemmas.{IsRestriction_inside, approp_to}
 use Rattle.ale_hierarchy.proofs.AcceptedLemmas.{restriction_edges_has}
 use Rattle.ale_signature.proofs.SizeLemmas.{size_is, size_from, size-less}
 
@@ -82,7 +82,7 @@ size_found d sizes k t s o below knows unknown less small =
           let f = unknown none small in
           let r : ℕ = f.2.restriction in
           let smaller : size d r < size d t = size-less d f.0 t r f.1 f.2.there small in
-          let inside = (IsApprop_inside d f.0 t r o.numbered (approp_to d f.0 t r o.numbered f.2.there)).2 in
+          let inside = (IsRestriction_inside d f.0 t r o.numbered (approp_to d f.0 t r o.numbered f.2.there)).2 in
           let known : 0 < get_or sizes r 0 = knows r inside (omega arith) (omega arith) in
           let not_known : get_or sizes r 0 ≡ 0 = f.2.unknown in
           absurd (omega arith)

@@ -68,7 +68,7 @@ restrictions_clear d o all =
     clash_clear d o.numbered o.no_cycle (λ t f c.
     let low = Clashes_inside d t f o.numbered c in
     let r = all f t low.1 low.0 c.mention c.applies in
-    c.none r.0 (approp_to d f t r.0 o.numbered r.1).restriction)
+    c.none r.0 (approp_to d f t r.0 o.numbered r.1))
 
 -- ---- sizes
 

@@ -2,9 +2,9 @@ ghost use Rattle.ale_signature.specs.Deciding.{AcceptsDecides, FaultsDecide};
 ghost use Rattle.ale_signature.specs.Laws.{SignatureLaw, RelationLaw, SomeIsAccepted};
 ghost use Rattle.ale_declared.specs.Numbering.{DeclaredIsNumbered};
 
-/// The laws of signatures: each accepted one obeys what the logic asks of a hierarchy, its functions tell
-/// the relations that define them, whatever is declared is well numbered, and some declarations with a
-/// feature are accepted.
+/// The laws of signatures: each accepted one obeys what the logic asks of a hierarchy, the functions tell
+/// the relations that define them whether it is accepted or not, whatever is declared is well numbered, and
+/// some declarations with a feature are accepted.
 pub fn signature_law()
     ensures lawful { SignatureLaw }
     ensures relations { RelationLaw }

@@ -114,6 +114,14 @@ impl Signature {
         })
     }
 
+    /// The law of signatures that are built: each is accepted, and so obeys the laws of a hierarchy.
+    pub fn built_law(&self)
+        ensures accepted { IsAccepted self.now }
+        ensures lawful { IsLawful (hierarchy self.now) }
+    {
+        let _ = &self.joins;
+    }
+
     /// Whether `a` is `b`, or more general.
     pub fn subsumes(&self, a: TypeId, b: TypeId) -> bool
         requires a { a < length self.now.types }

@@ -1,7 +1,7 @@
 use Rattle.std.proofs.Common.{sym, ◌∙◌, length}
 use Rattle.ale_hierarchy.specs.Order.{approp}
 use Rattle.ale_hierarchy.specs.Stages.{restriction_row}
-use Rattle.ale_hierarchy.proofs.AppropLemmas.{approp_to, IsApprop_inside}
+use Rattle.ale_hierarchy.proofs.AppropLemmas.{approp_to, IsRestriction_inside}
 use Rattle.ale_hierarchy.proofs.LoopLemmas.{IfSome-from}
 use Rattle.ale_hierarchy.proofs.TabulatedLemmas.{length-tabulated, length-row, entry-tabulated}
 use Rattle.ale_signature.proofs.restrictions.restriction_at.Goals as goal
@@ -23,4 +23,4 @@ returns-clause-value c =
 pub returns-clause-inside : goal.returns-clause-inside
 returns-clause-inside c =
     let w = c.type_count.ensures.ordered.numbered in
-    IfSome-from c.entry.result (λ r h. (IsApprop_inside c.args.order.now c.args.f c.args.t r w (approp_to c.args.order.now c.args.f c.args.t r w (sym (returns-clause-value c) ∙ h))).2)
+    IfSome-from c.entry.result (λ r h. (IsRestriction_inside c.args.order.now c.args.f c.args.t r w (approp_to c.args.order.now c.args.f c.args.t r w (sym (returns-clause-value c) ∙ h))).2)
