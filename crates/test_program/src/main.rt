@@ -8,7 +8,9 @@ mod runs;
 
 use commands::commands_of;
 use loads::loaded;
-use runs::{run_failing_files, run_failing_sink, run_texts, run_words};
+use runs::{
+    exit_of, exit_without_arguments, run_failing_files, run_failing_sink, run_texts, run_words,
+};
 use std::alloc::{AllocError, Global};
 use std::io;
 use std::process::ExitCode;
@@ -46,6 +48,8 @@ impl Room for Program {
             "grammar" => run_texts(alloc, first, ""),
             "commands" => run_texts(alloc, "a sub [].", first),
             "words" => run_words(alloc, first, second, third),
+            "exit" => exit_of(alloc, first, second, third),
+            "no arguments" => exit_without_arguments(alloc, first),
             "files fail" => run_failing_files(alloc, first, second, third),
             "sink fails" => run_failing_sink(alloc, first, second, third),
             _ => String::from_str(alloc, "no such call\n"),

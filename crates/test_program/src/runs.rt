@@ -1,7 +1,8 @@
 //! Whole runs over memory.
 use ale_base::{MemoryFiles, MemorySink};
-use ale_top::{Status, run};
+use ale_top::{exit_number, run};
 use std::alloc::{AllocError, Global};
+use std::io::{self, ErrorKind};
 use std::str;
 use test_support::bytes_of;
 
@@ -46,13 +47,12 @@ pub fn numbers_of(alloc: Global, text: &str) -> Result<Vec<u64>, AllocError> {
 }
 
 /// What was written, and the exit status.
-fn shown(alloc: Global, status: Status, sink: &MemorySink) -> Result<String, AllocError> {
+fn shown(alloc: Global, number: u8, sink: &MemorySink) -> Result<String, AllocError> {
     let mut out = String::new(alloc);
     match str::from_utf8(sink.bytes()) {
         Ok(text) => out.push_str(text)?,
         Err(_) => out.push_str("no text\n")?,
     }
-    let number = status.number();
     write!(out, "status {number}\n")?;
     Ok(out)
 }
@@ -68,7 +68,7 @@ fn ran(
     let mut sink = sink;
     let words = words_of(alloc, words)?;
     let status = run(alloc, words.as_slice(), &mut files, &mut sink);
-    shown(alloc, status, &sink)
+    shown(alloc, status.number(), &sink)
 }
 
 /// Runs a command line over files with these texts, which are named `g` and `c`.
@@ -112,4 +112,35 @@ pub fn run_failing_sink(
     let files = files_of(alloc, grammar, commands, Vec::new(alloc))?;
     let sink = MemorySink::new(alloc, ROOM, 10, failing)?;
     ran(alloc, "g c", files, sink)
+}
+
+/// Ends the process of a command line, whose first word is the program's name, over files with these texts.
+pub fn exit_of(
+    alloc: Global,
+    arguments: &str,
+    grammar: &str,
+    commands: &str,
+) -> Result<String, AllocError> {
+    let mut files = files_of(alloc, grammar, commands, Vec::new(alloc))?;
+    let mut sink = MemorySink::new(alloc, ROOM, 65_536, Vec::new(alloc))?;
+    let arguments = words_of(alloc, arguments)?;
+    let number = exit_number(alloc, Ok(arguments), &mut files, &mut sink);
+    shown(alloc, number, &sink)
+}
+
+/// Ends the process where the system gives no arguments.
+fn exit_without(alloc: Global, kind: ErrorKind) -> Result<String, AllocError> {
+    let mut files = MemoryFiles::new(alloc, Vec::new(alloc));
+    let mut sink = MemorySink::new(alloc, ROOM, 65_536, Vec::new(alloc))?;
+    let number = exit_number(alloc, Err(io::Error::from(kind)), &mut files, &mut sink);
+    shown(alloc, number, &sink)
+}
+
+/// The same by the word for the cause: that memory ran out, or another.
+pub fn exit_without_arguments(alloc: Global, cause: &str) -> Result<String, AllocError> {
+    if cause == "memory" {
+        exit_without(alloc, ErrorKind::OutOfMemory)
+    } else {
+        exit_without(alloc, ErrorKind::InvalidInput)
+    }
 }
