@@ -5,6 +5,7 @@ mod describing;
 mod error;
 mod forms;
 mod slots;
+
 pub use describing::{Described, describe};
 pub use error::NameError;
 pub use forms::{has_few_parts, is_plain};
