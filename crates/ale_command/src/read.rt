@@ -1,5 +1,5 @@
 //! The reading of commands from tokens.
-ghost use Rattle.std.specs.Prelude.{◌≡◌, ◌≢◌, ◌↔◌, Ok, Err, Result, List, IfOk, IfErr};
+ghost use Rattle.std.specs.Prelude.{◌≡◌, ◌≢◌, ◌↔◌, Ok, Err, Result, List, MatchResult};
 ghost use Rattle.std.specs.List.{All};
 ghost use Rattle.ale_token.specs.Places.{Stands};
 ghost use Rattle.ale_term.specs.Lexemes.{lexemes};
@@ -27,10 +27,9 @@ use std::alloc::Global;
 pub fn read_command(alloc: Global, text: &str, tokens: &[Token]) -> Result<CommandTerm, FormError>
     requires { All (Stands text.now) tokens.now }
     ensures exact { Gives command_data result (command_of (lexemes text.now tokens.now)) }
-    ensures found { IfOk result (λ c. IsCommand (lexemes text.now tokens.now) (command_data c)) }
-    ensures only { (c : CommandData) → Answers IsCommand (lexemes text.now tokens.now) (Ok c) → Gives command_data result (Ok c) }
-    ensures cause { IfErr result (λ e. e ≢ NoMemory → Answers IsCommand (lexemes text.now tokens.now) (Err e)) }
-    ensures refused { (e : FormError) → Answers IsCommand (lexemes text.now tokens.now) (Err e) → Gives command_data result (Err e) }
+    ensures found { let ls = lexemes text.now tokens.now in
+        MatchResult result (λ c. Answers IsCommand ls (Ok (command_data c))) (λ e. e ≢ NoMemory → Answers IsCommand ls (Err e)) }
+    ensures only { (answer : Result CommandData FormError) → Answers IsCommand (lexemes text.now tokens.now) answer → Gives command_data result answer }
 {
     read_tokens(alloc, text, tokens)
 }

@@ -113,7 +113,7 @@ piece_at ls =
     (λ x. Some (Slot x.0 ∷ [], x.1)))
     (λ n. Some (Piece n.0 ∷ [], n.1))
 
--- what was read piece by piece, as one list behind another
+-- what was read piece by piece, as one list after another
 abbrev pub flat_behind : List LinePart → Option (List (List LinePart) × List Lexeme) → Option (List LinePart × List Lexeme)
 flat_behind front read = read >>= λ ps. Some (front ++ concat ps.0, ps.1)
 
@@ -155,7 +155,7 @@ condition_at ls = choose (past_word (codes "if") ls) (Some (None, ls)) (λ behin
 abbrev pub lines_of : List Lexeme → Option (List MorphLine)
 lines_of ls = past_word (codes "morphs") ls >>= λ behind. whole (separated_at Comma line_at behind)
 
--- what stands behind "lex_rule"
+-- what stands after "lex_rule"
 abbrev pub lexical_of : List ℕ → List Lexeme → Option DeclarationData
 lexical_of n ls =
     description_at ls >>= λ d. past LexRuleArrow d.1 >>= λ behind. description_at behind >>= λ e.

@@ -17,7 +17,7 @@ use ale_term::{
 use ale_text::{Row, Text};
 use std::alloc::Global;
 
-// The goal of a constraint, if any.
+/// The goal of a constraint, if any.
 #[tactic(auto, using(crate::proofs::Words::word_rules))]
 fn goal_behind(alloc: Global, lexemes: &[Lexeme]) -> Result<Option<GoalTerm>, ReadError>
     ensures { Gives (option_map goal_data) result (goal_behind lexemes.now) }
@@ -29,7 +29,7 @@ fn goal_behind(alloc: Global, lexemes: &[Lexeme]) -> Result<Option<GoalTerm>, Re
     Ok(Some(whole_goal(alloc, behind)?))
 }
 
-// A constraint on a type.
+/// A constraint on a type.
 #[tactic(auto, using(crate::proofs::Words::word_rules))]
 pub(crate) fn read_constraint(alloc: Global, lexemes: &[Lexeme]) -> Result<Declaration, ReadError>
     ensures { Gives declaration_data result (constraint_of lexemes.now) }
@@ -41,7 +41,7 @@ pub(crate) fn read_constraint(alloc: Global, lexemes: &[Lexeme]) -> Result<Decla
     Ok(Declaration::Cons(name.copy(alloc)?, described, goal))
 }
 
-// A variable.
+/// A variable.
 fn variable(alloc: Global, lexemes: &[Lexeme]) -> Result<(Text, &[Lexeme]), ReadError>
     ensures { Gives (λ p. (p.0, p.1.now)) result (variable_at lexemes.now) }
 {
@@ -49,7 +49,7 @@ fn variable(alloc: Global, lexemes: &[Lexeme]) -> Result<(Text, &[Lexeme]), Read
     Ok((name.copy(alloc)?, behind))
 }
 
-// The further variables, each behind a `,`.
+/// The further variables, each after a `,`.
 fn more_variables<'a>(
     alloc: Global,
     lexemes: &'a [Lexeme],
@@ -69,7 +69,7 @@ fn more_variables<'a>(
     Ok((found, rest))
 }
 
-// One variable or more, with `,` between them.
+/// One variable or more, with `,` between them.
 fn variables(alloc: Global, lexemes: &[Lexeme]) -> Result<(Vec<Text>, &[Lexeme]), ReadError>
     ensures { Gives (λ p. (p.0.items, p.1.now)) result (separated_at Comma variable_at lexemes.now) }
 {
@@ -78,7 +78,7 @@ fn variables(alloc: Global, lexemes: &[Lexeme]) -> Result<(Vec<Text>, &[Lexeme])
     Ok((joined(alloc, first, others)?, rest))
 }
 
-// The parameters of a macro, if any.
+/// The parameters of a macro, if any.
 fn parameters(alloc: Global, lexemes: &[Lexeme]) -> Result<(Row<Text>, &[Lexeme]), ReadError>
     ensures { Gives (λ p. (p.0, p.1.now)) result (parameters_at lexemes.now) }
 {
@@ -93,7 +93,7 @@ fn parameters(alloc: Global, lexemes: &[Lexeme]) -> Result<(Row<Text>, &[Lexeme]
     Ok((Row::of(names), behind))
 }
 
-// A macro.
+/// A macro.
 #[tactic(auto, using(crate::proofs::Words::word_rules))]
 pub(crate) fn read_macro(alloc: Global, lexemes: &[Lexeme]) -> Result<Declaration, ReadError>
     ensures { Gives declaration_data result (macro_of lexemes.now) }
@@ -105,7 +105,7 @@ pub(crate) fn read_macro(alloc: Global, lexemes: &[Lexeme]) -> Result<Declaratio
     Ok(Declaration::Macro(name.copy(alloc)?, names, described))
 }
 
-// A definite clause.
+/// A definite clause.
 #[tactic(auto, using(crate::proofs::Words::word_rules))]
 pub(crate) fn read_clause(alloc: Global, lexemes: &[Lexeme]) -> Result<Declaration, ReadError>
     ensures { Gives declaration_data result (clause_of lexemes.now) }
@@ -116,7 +116,7 @@ pub(crate) fn read_clause(alloc: Global, lexemes: &[Lexeme]) -> Result<Declarati
     Ok(Declaration::Clause(name, arguments, goal))
 }
 
-// A word.
+/// A word.
 pub(crate) fn read_word(alloc: Global, lexemes: &[Lexeme]) -> Result<Declaration, ReadError>
     ensures { Gives declaration_data result (word_of lexemes.now) }
 {
@@ -126,7 +126,7 @@ pub(crate) fn read_word(alloc: Global, lexemes: &[Lexeme]) -> Result<Declaration
     Ok(Declaration::Word(name.copy(alloc)?, described))
 }
 
-// An empty category.
+/// An empty category.
 #[tactic(auto, using(crate::proofs::Words::word_rules))]
 pub(crate) fn read_empty(alloc: Global, lexemes: &[Lexeme]) -> Result<Declaration, ReadError>
     ensures { Gives declaration_data result (empty_of lexemes.now) }
@@ -135,7 +135,7 @@ pub(crate) fn read_empty(alloc: Global, lexemes: &[Lexeme]) -> Result<Declaratio
     Ok(Declaration::Empty(whole_description(alloc, behind)?))
 }
 
-// The predicate that gives the semantics.
+/// The predicate that gives the semantics.
 #[tactic(auto, using(crate::proofs::Words::word_rules))]
 pub(crate) fn read_semantics(alloc: Global, lexemes: &[Lexeme]) -> Result<Declaration, ReadError>
     ensures { Gives declaration_data result (semantics_of lexemes.now) }

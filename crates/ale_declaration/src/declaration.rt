@@ -1,3 +1,4 @@
+//! Declarations as they are written.
 use ale_declared::SigDecl;
 use ale_term::{GoalTerm, Term};
 use ale_text::{Row, Text};

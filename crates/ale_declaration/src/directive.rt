@@ -11,7 +11,7 @@ use ale_term::{Lexeme, Symbol, atom_at, past, past_word};
 use ale_text::Text;
 use std::alloc::{AllocError, Global};
 
-// The number in round brackets behind this word of ASCII, where the lexemes are no more than these.
+/// The number in round brackets after this word of ASCII, where the lexemes are no more than these.
 fn numbered(lexemes: &[Lexeme], word: &str) -> Option<u32>
     requires { chars word.now ≡ word.now }
     ensures { result ≡ numbered word.now lexemes.now }
@@ -25,7 +25,7 @@ fn numbered(lexemes: &[Lexeme], word: &str) -> Option<u32>
     }
 }
 
-// The name of a directive that is passed over.
+/// The name of a directive that is passed over.
 #[tactic(auto, using(crate::proofs::Words::word_rules))]
 fn directive_name(alloc: Global, lexemes: &[Lexeme]) -> Result<Text, AllocError>
     ensures { IfOk result (λ name. name ≡ name_or_dash (atom_at lexemes.now)) }
@@ -36,7 +36,7 @@ fn directive_name(alloc: Global, lexemes: &[Lexeme]) -> Result<Text, AllocError>
     }
 }
 
-// The directive whose lexemes behind `:-` these are.
+/// The directive whose lexemes after `:-` these are.
 #[tactic(auto, using(crate::proofs::Words::word_rules))]
 pub(crate) fn directive(alloc: Global, lexemes: &[Lexeme]) -> Result<Declaration, AllocError>
     ensures { IfOk result (λ d. declaration_data d ≡ directive_of lexemes.now) }

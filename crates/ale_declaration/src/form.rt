@@ -1,3 +1,5 @@
+//! The names of the forms.
+
 /// The forms of declarations other than directives, in the order in which they are tried.
 #[derive(Clone, Copy, Debug, PartialEq, Eq)]
 pub enum Form {

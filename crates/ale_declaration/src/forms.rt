@@ -15,7 +15,7 @@ use crate::types::{read_extensional, read_types};
 use ale_term::{Lexeme, ReadError};
 use std::alloc::Global;
 
-// A declaration of this form.
+/// A declaration of this form.
 fn read_form(alloc: Global, form: Form, lexemes: &[Lexeme]) -> Result<Declaration, ReadError>
     ensures { Gives declaration_data result (reading_of form lexemes.now) }
 {
@@ -33,7 +33,7 @@ fn read_form(alloc: Global, form: Form, lexemes: &[Lexeme]) -> Result<Declaratio
     }
 }
 
-// A declaration of the first of these forms that fits.
+/// A declaration of the first of these forms that fits.
 fn first_of(alloc: Global, forms: &[Form], lexemes: &[Lexeme]) -> Result<Declaration, ReadError>
     ensures { Gives declaration_data result (first_of forms.now lexemes.now) }
 {
@@ -47,7 +47,7 @@ fn first_of(alloc: Global, forms: &[Form], lexemes: &[Lexeme]) -> Result<Declara
     Err(ReadError::NotTheForm)
 }
 
-// A declaration of the first form that fits.
+/// A declaration of the first form that fits.
 pub(crate) fn first_fit(alloc: Global, lexemes: &[Lexeme]) -> Result<Declaration, ReadError>
     ensures { Gives declaration_data result (first_of in_order lexemes.now) }
 {

@@ -7,12 +7,12 @@ ghost use Rattle.ale_declaration.specs.Forms.{pieces};
 ghost use Rattle.ale_declaration.specs.Reading.{piece_at, flat_behind, side_at, is_slot, has_slot, is_told, is_bound, line_at};
 
 use crate::declaration::{LinePart, MorphLine};
-use crate::list::{extend, is_same, is_word, some_atoms};
-use ale_term::{Lexeme, ReadError, Symbol, add, atom_at, past, past_word, variable_at};
+use crate::list::{extend, is_same, some_atoms};
+use ale_term::{Lexeme, ReadError, Symbol, add, atom_at, is_word, past, past_word, variable_at};
 use ale_text::{Row, Text};
 use std::alloc::Global;
 
-// The atoms one after the other.
+/// The atoms one after the other.
 fn letters(alloc: Global, names: &[Text]) -> Result<Vec<LinePart>, ReadError>
     ensures { Gives (λ v. v.items) result (Some (pieces names.now)) }
 {
@@ -23,7 +23,7 @@ fn letters(alloc: Global, names: &[Text]) -> Result<Vec<LinePart>, ReadError>
     Ok(found)
 }
 
-// A side of one part.
+/// A side of one part.
 fn lone(alloc: Global, part: LinePart) -> Result<Vec<LinePart>, ReadError>
     ensures { Gives (λ v. v.items) result (Some (part ∷ [])) }
 {
@@ -32,7 +32,7 @@ fn lone(alloc: Global, part: LinePart) -> Result<Vec<LinePart>, ReadError>
     Ok(found)
 }
 
-// A piece of a side.
+/// A piece of a side.
 fn piece(alloc: Global, lexemes: &[Lexeme]) -> Result<(Vec<LinePart>, &[Lexeme]), ReadError>
     ensures { Gives (λ p. (p.0.items, p.1.now)) result (piece_at lexemes.now) }
 {
@@ -46,7 +46,7 @@ fn piece(alloc: Global, lexemes: &[Lexeme]) -> Result<(Vec<LinePart>, &[Lexeme])
     Ok((letters(alloc, names.as_slice())?, behind))
 }
 
-// The parts of the further pieces, each behind a `,`, behind those that were read before.
+/// The parts of the further pieces, each after a `,`, after those that were read before.
 fn more_pieces<'a>(
     alloc: Global,
     first: Vec<LinePart>,
@@ -67,7 +67,7 @@ fn more_pieces<'a>(
     Ok((found, rest))
 }
 
-// A side of a line.
+/// A side of a line.
 fn side(alloc: Global, lexemes: &[Lexeme]) -> Result<(Vec<LinePart>, &[Lexeme]), ReadError>
     ensures { Gives (λ p. (p.0.items, p.1.now)) result (side_at lexemes.now) }
 {
@@ -80,7 +80,7 @@ fn side(alloc: Global, lexemes: &[Lexeme]) -> Result<(Vec<LinePart>, &[Lexeme]),
     Ok((parts, behind))
 }
 
-// Whether the part is the variable with this name.
+/// Whether the part is the variable with this name.
 fn is_slot(part: &LinePart, name: &Text) -> bool
     ensures { result ≡ is_slot part.now name.now }
 {
@@ -90,7 +90,7 @@ fn is_slot(part: &LinePart, name: &Text) -> bool
     }
 }
 
-// Whether the variable with this name is among the parts.
+/// Whether the variable with this name is among the parts.
 fn has_slot(parts: &[LinePart], name: &Text) -> bool
     ensures { result ≡ has_slot parts.now name.now }
 {
@@ -102,7 +102,7 @@ fn has_slot(parts: &[LinePart], name: &Text) -> bool
     false
 }
 
-// Whether what the left side matches tells what this part of the right side is.
+/// Whether what the left side matches tells what this part of the right side is.
 #[tactic(auto, using(crate::proofs::Words::word_rules))]
 fn is_told(left: &[LinePart], part: &LinePart) -> bool
     ensures { result ≡ is_told left.now part.now }
@@ -113,7 +113,7 @@ fn is_told(left: &[LinePart], part: &LinePart) -> bool
     }
 }
 
-// Whether it tells this of each part of the right side.
+/// Whether it tells this of each part of the right side.
 fn is_bound(left: &[LinePart], right: &[LinePart]) -> bool
     ensures { result ≡ is_bound left.now right.now }
 {
@@ -125,7 +125,7 @@ fn is_bound(left: &[LinePart], right: &[LinePart]) -> bool
     true
 }
 
-// A line of morphology.
+/// A line of morphology.
 #[tactic(auto, using(crate::proofs::Words::word_rules))]
 pub(crate) fn line(alloc: Global, lexemes: &[Lexeme]) -> Result<(MorphLine, &[Lexeme]), ReadError>
     ensures { Gives (λ p. (p.0, p.1.now)) result (line_at lexemes.now) }

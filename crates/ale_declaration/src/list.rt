@@ -1,14 +1,14 @@
 //! Lists that are read, and the tests of names.
 ghost use Rattle.std.specs.Prelude.{◌≡◌, ◌++◌, OnOk};
-ghost use Rattle.std.specs.Str.{bytes_eq, chars};
+ghost use Rattle.std.specs.Str.{bytes_eq};
 ghost use Rattle.ale_term.specs.Results.{Gives};
 ghost use Rattle.ale_declaration.specs.Reading.{atoms_at, has_name, are_distinct};
 
-use ale_term::{Lexeme, ReadError, add, atoms};
+use ale_term::{Lexeme, ReadError, add, atoms, is_word};
 use ale_text::{Row, Text};
 use std::alloc::{AllocError, Global};
 
-// Puts the others behind the items, in order.
+/// Appends the others to the items, in order.
 pub(crate) fn extend<T: Drop>(items: &mut Vec<T>, others: Vec<T>) -> Result<(), AllocError>
     ensures { OnOk result (items.new.items ≡ items.old.items ++ others.items) }
 {
@@ -17,7 +17,7 @@ pub(crate) fn extend<T: Drop>(items: &mut Vec<T>, others: Vec<T>) -> Result<(), 
     Ok(())
 }
 
-// One atom or more in square brackets.
+/// One atom or more in square brackets.
 pub(crate) fn some_atoms(
     alloc: Global,
     lexemes: &[Lexeme],
@@ -31,22 +31,14 @@ pub(crate) fn some_atoms(
     Ok((names, behind))
 }
 
-// Whether the name is this word of ASCII.
-pub(crate) fn is_word(name: &Text, word: &str) -> bool
-    requires { chars word.now ≡ word.now }
-    ensures { result ≡ bytes_eq name.now word.now }
-{
-    name.as_str() == word
-}
-
-// Whether both names have the same characters.
+/// Whether both names have the same characters.
 pub(crate) fn is_same(name: &Text, other: &Text) -> bool
     ensures { result ≡ bytes_eq name.now other.now }
 {
     name.same(other)
 }
 
-// Whether the name is among them.
+/// Whether the name is among them.
 fn has_name(names: &[Text], name: &Text) -> bool
     ensures { result ≡ has_name names.now name.now }
 {
@@ -58,7 +50,7 @@ fn has_name(names: &[Text], name: &Text) -> bool
     false
 }
 
-// Whether no name stands twice, apart from `_`.
+/// Whether no name stands twice, apart from `_`.
 #[tactic(auto, using(crate::proofs::Words::word_rules))]
 pub(crate) fn are_distinct(names: &[Text]) -> bool
     ensures { result ≡ are_distinct names.now }

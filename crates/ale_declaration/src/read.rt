@@ -18,7 +18,7 @@ use ale_term::{Lexeme, Symbol, lexemes, past};
 use ale_token::Token;
 use std::alloc::Global;
 
-/// The declaration that tokens of a text stand for, without the `.` that ends it: a directive behind `:-`, which is never
+/// The declaration that tokens of a text stand for, without the `.` that ends it: a directive after `:-`, which is never
 /// refused, or the first form that fits. The tokens are ones that `ale_token::tokens` gives for the text. The calls nest
 /// as deep as the tokens do, which is no deeper than 200.
 ///
@@ -43,7 +43,7 @@ pub fn read_declaration(
     read_tokens(alloc, text, tokens)
 }
 
-// The same, as a function.
+/// The same, as a function.
 fn read_tokens(alloc: Global, text: &str, tokens: &[Token]) -> Result<Declaration, FormError>
     requires { All (Stands text.now) tokens.now }
     ensures { Gives declaration_data result (declaration_of (lexemes text.now tokens.now)) }
@@ -52,7 +52,7 @@ fn read_tokens(alloc: Global, text: &str, tokens: &[Token]) -> Result<Declaratio
     read_lexemes(alloc, &found)
 }
 
-// The declaration that the lexemes are.
+/// The declaration that the lexemes are.
 fn read_lexemes(alloc: Global, lexemes: &[Lexeme]) -> Result<Declaration, FormError>
     ensures { Gives declaration_data result (declaration_of lexemes.now) }
 {

@@ -18,7 +18,7 @@ use ale_text::{Row, Text};
 use sqlite_items::Items;
 use std::alloc::Global;
 
-// The condition of a lexical rule, if any.
+/// The condition of a lexical rule, if any.
 #[tactic(auto, using(crate::proofs::Words::word_rules))]
 fn condition(alloc: Global, lexemes: &[Lexeme]) -> Result<(Option<GoalTerm>, &[Lexeme]), ReadError>
     ensures { Gives (λ p. (option_map goal_data p.0, p.1.now)) result (condition_at lexemes.now) }
@@ -30,7 +30,7 @@ fn condition(alloc: Global, lexemes: &[Lexeme]) -> Result<(Option<GoalTerm>, &[L
     Ok((Some(found), rest))
 }
 
-// The further lines, each behind a `,`.
+/// The further lines, each after a `,`.
 fn more_lines<'a>(
     alloc: Global,
     lexemes: &'a [Lexeme],
@@ -50,7 +50,7 @@ fn more_lines<'a>(
     Ok((found, rest))
 }
 
-// The lines of a lexical rule, and nothing behind them.
+/// The lines of a lexical rule, and nothing after them.
 #[tactic(auto, using(crate::proofs::Words::word_rules))]
 fn lines(alloc: Global, lexemes: &[Lexeme]) -> Result<Row<MorphLine>, ReadError>
     ensures { Gives (λ r. r) result (lines_of lexemes.now) }
@@ -62,7 +62,7 @@ fn lines(alloc: Global, lexemes: &[Lexeme]) -> Result<Row<MorphLine>, ReadError>
     Ok(Row::of(joined(alloc, first, others)?))
 }
 
-// What stands behind `lex_rule`.
+/// What stands after `lex_rule`.
 fn lexical(alloc: Global, name: &Text, lexemes: &[Lexeme]) -> Result<Declaration, ReadError>
     ensures { Gives declaration_data result (lexical_of name.now lexemes.now) }
 {
@@ -75,7 +75,7 @@ fn lexical(alloc: Global, name: &Text, lexemes: &[Lexeme]) -> Result<Declaration
     Ok(Declaration::LexRule(name, input, output, goal, lines))
 }
 
-// A lexical rule.
+/// A lexical rule.
 #[tactic(auto, using(crate::proofs::Words::word_rules))]
 pub(crate) fn read_lexical_rule(alloc: Global, lexemes: &[Lexeme]) -> Result<Declaration, ReadError>
     ensures { Gives declaration_data result (lexical_rule_of lexemes.now) }
@@ -85,7 +85,7 @@ pub(crate) fn read_lexical_rule(alloc: Global, lexemes: &[Lexeme]) -> Result<Dec
     lexical(alloc, name, inner)
 }
 
-// A daughter, behind its word.
+/// A daughter, after its word.
 fn daughter(alloc: Global, lexemes: &[Lexeme]) -> Result<(Part, &[Lexeme]), ReadError>
     ensures { Gives (λ p. (element_data p.0, p.1.now)) result (daughter_at lexemes.now) }
 {
@@ -94,7 +94,7 @@ fn daughter(alloc: Global, lexemes: &[Lexeme]) -> Result<(Part, &[Lexeme]), Read
     Ok((Part::Cat(described), rest))
 }
 
-// A list of daughters, behind its word.
+/// A list of daughters, after its word.
 fn daughters(alloc: Global, lexemes: &[Lexeme]) -> Result<(Part, &[Lexeme]), ReadError>
     ensures { Gives (λ p. (element_data p.0, p.1.now)) result (daughters_at lexemes.now) }
 {
@@ -103,7 +103,7 @@ fn daughters(alloc: Global, lexemes: &[Lexeme]) -> Result<(Part, &[Lexeme]), Rea
     Ok((Part::Cats(described), rest))
 }
 
-// The semantic head, behind its word.
+/// The semantic head, after its word.
 fn head(alloc: Global, lexemes: &[Lexeme]) -> Result<(Part, &[Lexeme]), ReadError>
     ensures { Gives (λ p. (element_data p.0, p.1.now)) result (head_at lexemes.now) }
 {
@@ -112,7 +112,7 @@ fn head(alloc: Global, lexemes: &[Lexeme]) -> Result<(Part, &[Lexeme]), ReadErro
     Ok((Part::Head(described), rest))
 }
 
-// A goal, behind its word.
+/// A goal, after its word.
 fn goal_part(alloc: Global, lexemes: &[Lexeme]) -> Result<(Part, &[Lexeme]), ReadError>
     ensures { Gives (λ p. (element_data p.0, p.1.now)) result (goal_part_at lexemes.now) }
 {
@@ -121,7 +121,7 @@ fn goal_part(alloc: Global, lexemes: &[Lexeme]) -> Result<(Part, &[Lexeme]), Rea
     Ok((Part::Goal(found), rest))
 }
 
-// An element of a rule.
+/// An element of a rule.
 #[tactic(auto, using(crate::proofs::Words::word_rules))]
 fn rule_part(alloc: Global, lexemes: &[Lexeme]) -> Result<(Part, &[Lexeme]), ReadError>
     ensures { Gives (λ p. (element_data p.0, p.1.now)) result (rule_part_at lexemes.now) }
@@ -141,7 +141,7 @@ fn rule_part(alloc: Global, lexemes: &[Lexeme]) -> Result<(Part, &[Lexeme]), Rea
     )
 }
 
-// The further elements, each behind a `,`.
+/// The further elements, each after a `,`.
 fn more_rule_parts<'a>(
     alloc: Global,
     lexemes: &'a [Lexeme],
@@ -161,7 +161,7 @@ fn more_rule_parts<'a>(
     Ok((found, rest))
 }
 
-// One element or more, with `,` between them.
+/// One element or more, with `,` between them.
 fn some_rule_parts(alloc: Global, lexemes: &[Lexeme]) -> Result<(Vec<Part>, &[Lexeme]), ReadError>
     ensures { Gives (λ p. (map element_data p.0.items, p.1.now)) result (separated_at Comma rule_part_at lexemes.now) }
 {
@@ -170,7 +170,7 @@ fn some_rule_parts(alloc: Global, lexemes: &[Lexeme]) -> Result<(Vec<Part>, &[Le
     Ok((joined(alloc, first, others)?, rest))
 }
 
-// The elements of a rule, and nothing behind them.
+/// The elements of a rule, and nothing after them.
 fn rule_parts(alloc: Global, lexemes: &[Lexeme]) -> Result<Items<Part>, ReadError>
     ensures { Gives (λ ps. map element_data ps) result (rule_parts_of lexemes.now) }
 {
@@ -179,7 +179,7 @@ fn rule_parts(alloc: Global, lexemes: &[Lexeme]) -> Result<Items<Part>, ReadErro
     Ok(Items::from_vec(found))
 }
 
-// A phrase structure rule.
+/// A phrase structure rule.
 #[tactic(auto, using(crate::proofs::Words::word_rules))]
 pub(crate) fn read_rule(alloc: Global, lexemes: &[Lexeme]) -> Result<Declaration, ReadError>
     ensures { Gives declaration_data result (rule_of lexemes.now) }

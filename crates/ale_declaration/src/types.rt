@@ -14,7 +14,7 @@ use ale_term::{Lexeme, ReadError, Symbol, add, atom_at, atoms, joined, past, pas
 use ale_text::{Row, Text};
 use std::alloc::Global;
 
-// A feature and the restriction on its value.
+/// A feature and the restriction on its value.
 fn restriction(alloc: Global, lexemes: &[Lexeme]) -> Result<((Text, Text), &[Lexeme]), ReadError>
     ensures { Gives (λ p. (p.0, p.1.now)) result (restriction_at lexemes.now) }
 {
@@ -24,7 +24,7 @@ fn restriction(alloc: Global, lexemes: &[Lexeme]) -> Result<((Text, Text), &[Lex
     Ok(((feature.copy(alloc)?, value.copy(alloc)?), rest))
 }
 
-// The further restrictions, each behind a `,`.
+/// The further restrictions, each after a `,`.
 fn more_restrictions<'a>(
     alloc: Global,
     lexemes: &'a [Lexeme],
@@ -44,7 +44,7 @@ fn more_restrictions<'a>(
     Ok((found, rest))
 }
 
-// Features with restrictions in square brackets, which may be none, and nothing behind them.
+/// Features with restrictions in square brackets, which may be none, and nothing after them.
 fn restrictions(alloc: Global, lexemes: &[Lexeme]) -> Result<Row<(Text, Text)>, ReadError>
     ensures { Gives (λ r. r) result (restrictions_of lexemes.now) }
 {
@@ -59,7 +59,7 @@ fn restrictions(alloc: Global, lexemes: &[Lexeme]) -> Result<Row<(Text, Text)>, 
     Ok(Row::of(joined(alloc, first, others)?))
 }
 
-// The features that a type introduces behind its subtypes, if any.
+/// The features that a type introduces after its subtypes, if any.
 #[tactic(auto, using(crate::proofs::Words::word_rules))]
 fn introduced(alloc: Global, lexemes: &[Lexeme]) -> Result<Row<(Text, Text)>, ReadError>
     ensures { Gives (λ r. r) result (introduced_of lexemes.now) }
@@ -71,7 +71,7 @@ fn introduced(alloc: Global, lexemes: &[Lexeme]) -> Result<Row<(Text, Text)>, Re
     Ok(Row::of(Vec::new(alloc)))
 }
 
-// What follows the name of a type.
+/// What follows the name of a type.
 #[tactic(auto, using(crate::proofs::Words::word_rules))]
 fn kind(alloc: Global, name: &Text, lexemes: &[Lexeme]) -> Result<Declaration, ReadError>
     ensures { Gives declaration_data result (kind_of name.now lexemes.now) }
@@ -88,7 +88,7 @@ fn kind(alloc: Global, name: &Text, lexemes: &[Lexeme]) -> Result<Declaration, R
     Ok(Declaration::Sig(SigDecl::Kind { name, subs, intros }))
 }
 
-// A type with its subtypes and its features.
+/// A type with its subtypes and its features.
 pub(crate) fn read_types(alloc: Global, lexemes: &[Lexeme]) -> Result<Declaration, ReadError>
     ensures { Gives declaration_data result (types_of lexemes.now) }
 {
@@ -96,7 +96,7 @@ pub(crate) fn read_types(alloc: Global, lexemes: &[Lexeme]) -> Result<Declaratio
     kind(alloc, name, behind)
 }
 
-// Extensional types.
+/// Extensional types.
 #[tactic(auto, using(crate::proofs::Words::word_rules))]
 pub(crate) fn read_extensional(alloc: Global, lexemes: &[Lexeme]) -> Result<Declaration, ReadError>
     ensures { Gives declaration_data result (extensional_of lexemes.now) }

@@ -23,7 +23,7 @@ begins_argument ls = is_some (atom_at ls) || (is_some (variable_at ls) || begins
 abbrev pub is_call_word : List ℕ → Bool
 is_call_word w = bytes_eq w (codes "prolog") || (bytes_eq w (codes "bagof") || bytes_eq w (codes "when"))
 
--- `when` with `morphs` before, and an atom and "(" behind
+-- `when` with `morphs` before, and an atom and "(" after
 abbrev pub is_guard : Bool → List ℕ → List Lexeme → Bool
 is_guard morphs w ls = morphs && (bytes_eq w (codes "when") && begins_call ls)
 
@@ -33,17 +33,17 @@ is_append w ls = bytes_eq w (codes "a_") && begins_argument ls
 abbrev pub is_head_goal : List ℕ → List Lexeme → Bool
 is_head_goal w ls = bytes_eq w (codes "sem_goal") && begins Greater ls
 
--- `prolog`, `bagof` and `when` before "("; `when` behind `morphs`, before an atom and "("; `a_` before an atom, a variable
+-- `prolog`, `bagof` and `when` before "("; `when` after `morphs`, before an atom and "("; `a_` before an atom, a variable
 -- or "("; and `sem_goal` before ">"
 abbrev pub is_left_out : Bool → List ℕ → List Lexeme → Bool
 is_left_out morphs w ls =
     (is_call_word w && begins OpenRound ls) || (is_guard morphs w ls || (is_append w ls || is_head_goal w ls))
 
--- a symbol that is left out stands at the front
+-- a symbol that is left out stands at the start
 abbrev pub left_out_sign : List Lexeme → Option (List ℕ)
 left_out_sign ls = choose (past Identical ls) (past FunctionArrow ls >>= λ behind. Some (codes "+++>")) (λ behind. Some (codes "=@"))
 
--- a word that is left out stands at the front; `morphs` tells whether the atom `morphs` stands somewhere before
+-- a word that is left out stands at the start; `morphs` tells whether the atom `morphs` stands somewhere before
 abbrev pub left_out_at : Bool → Lexeme → List Lexeme → Option (List ℕ)
 left_out_at morphs (Atom w) ls = if is_left_out morphs w ls then Some w else None
 left_out_at morphs (Sign s) ls = left_out_sign (Sign s ∷ ls)

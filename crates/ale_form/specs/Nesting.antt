@@ -1,5 +1,5 @@
 -- How deep lexemes nest. It is counted from 0: an opening bracket and each of ":", "=\=", "\+" and "->" add 1. What
--- separates parts goes back to the count of its level, which is the one just behind the innermost bracket that is still
+-- separates parts goes back to the count of its level, which is the one just after the innermost bracket that is still
 -- open, or 0, and 1 more for each "->" since then that stands in no bracket closed again. A closing bracket, of either
 -- kind, goes back to the count before the innermost one that is open.
 -- Source: this project's own profile.

@@ -28,7 +28,7 @@ abbrev pub are_digits : List ℕ → Bool
 are_digits [] = true
 are_digits (c ∷ cs) = is_digit c && are_digits cs
 
--- the digits of a number at the front, and what stands behind it
+-- the digits of a number at the start, and what stands after it
 abbrev pub number_at : List Lexeme → Option (List ℕ × List Lexeme)
 number_at [] = None
 number_at (Number cs ∷ ls) = Some (cs, ls)

@@ -9,7 +9,7 @@ abbrev pub ended : List Lexeme → Option (Unit {0})
 ended [] = Some tt
 ended (l ∷ ls) = None
 
--- what was read, where nothing stands behind it
+-- what was read, where nothing stands after it
 abbrev pub whole : {A : Type 0} → Option (A × List Lexeme) → Option A
 whole read = read >>= λ x. ended x.1 >>= λ end. Some x.0
 

@@ -1,3 +1,4 @@
+//! Why a declaration or a command is none.
 use ale_term::ReadError;
 use ale_text::Text;
 use std::alloc::{AllocError, AllocFailed};

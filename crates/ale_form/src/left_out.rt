@@ -4,19 +4,11 @@ ghost use Rattle.std.specs.Str.{chars, bytes_eq};
 ghost use Rattle.ale_term.specs.declared.lexeme.Lexeme.TheVariants.{Atom};
 ghost use Rattle.ale_form.specs.LeftOut.{begins, begins_call, begins_argument, is_call_word, is_guard, is_append, is_head_goal, is_left_out, left_out_sign, left_out_at, is_morphs, left_out};
 
-use ale_term::{Lexeme, Symbol, atom_at, past, variable_at};
+use ale_term::{Lexeme, Symbol, atom_at, is_word, past, variable_at};
 use ale_text::Text;
 use std::alloc::{AllocError, Global};
 
-// Whether the name is this word of ASCII.
-fn is_word(name: &Text, word: &str) -> bool
-    requires { chars word.now ≡ word.now }
-    ensures { result ≡ bytes_eq name.now word.now }
-{
-    name.as_str() == word
-}
-
-// This word of ASCII as a text.
+/// This word of ASCII as a text.
 fn word_text(alloc: Global, word: &str) -> Result<Text, AllocError>
     requires { chars word.now ≡ word.now }
     ensures { IfOk result (λ t. t ≡ word.now) }
@@ -30,7 +22,7 @@ fn begins(lexemes: &[Lexeme], symbol: Symbol) -> bool
     past(lexemes, symbol).is_some()
 }
 
-// Whether an atom and `(` stand there.
+/// Whether an atom and `(` stand there.
 fn begins_call(lexemes: &[Lexeme]) -> bool
     ensures { result ≡ begins_call lexemes.now }
 {
@@ -40,7 +32,7 @@ fn begins_call(lexemes: &[Lexeme]) -> bool
     }
 }
 
-// Whether an atom, a variable or `(` stands there.
+/// Whether an atom, a variable or `(` stands there.
 fn begins_argument(lexemes: &[Lexeme]) -> bool
     ensures { result ≡ begins_argument lexemes.now }
 {
@@ -77,7 +69,7 @@ fn is_head_goal(word: &Text, behind: &[Lexeme]) -> bool
     is_word(word, "sem_goal") && begins(behind, Symbol::Greater)
 }
 
-// Whether the atom with this name is left out before these lexemes.
+/// Whether the atom with this name is left out before these lexemes.
 fn is_left_out(morphs: bool, word: &Text, behind: &[Lexeme]) -> bool
     ensures { result ≡ is_left_out morphs word.now behind.now }
 {
@@ -87,7 +79,7 @@ fn is_left_out(morphs: bool, word: &Text, behind: &[Lexeme]) -> bool
         || is_head_goal(word, behind)
 }
 
-// The symbol at the front, where it is left out.
+/// The symbol at the start, where it is left out.
 #[tactic(auto, using(crate::proofs::Words::word_rules))]
 fn left_out_sign(alloc: Global, lexemes: &[Lexeme]) -> Result<Option<Text>, AllocError>
     ensures { IfOk result (λ o. o ≡ left_out_sign lexemes.now) }
@@ -101,7 +93,7 @@ fn left_out_sign(alloc: Global, lexemes: &[Lexeme]) -> Result<Option<Text>, Allo
     Ok(None)
 }
 
-// The name, where it is left out before these lexemes.
+/// The name, where it is left out before these lexemes.
 fn left_out_atom(
     alloc: Global,
     morphs: bool,
@@ -116,7 +108,7 @@ fn left_out_atom(
     Ok(None)
 }
 
-// Whether the lexeme is the atom `morphs`.
+/// Whether the lexeme is the atom `morphs`.
 #[tactic(auto, using(crate::proofs::Words::word_rules))]
 fn is_morphs(lexeme: &Lexeme) -> bool
     ensures { result ≡ is_morphs lexeme.now }
@@ -127,7 +119,7 @@ fn is_morphs(lexeme: &Lexeme) -> bool
     }
 }
 
-// The first of the words that are left out.
+/// The first of the words that are left out.
 pub(crate) fn left_out(alloc: Global, lexemes: &[Lexeme]) -> Result<Option<Text>, AllocError>
     ensures { IfOk result (λ o. o ≡ left_out lexemes.now) }
 {

@@ -1,3 +1,4 @@
+//! Levels of nesting, each with what it counts.
 ghost use Rattle.std.specs.Prelude.{◌≡◌, ◌<◌, ◌^◌, suc};
 
 use std::marker::Model;

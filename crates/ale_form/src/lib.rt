@@ -15,6 +15,3 @@ pub use error::FormError;
 pub use nesting::nesting_limit;
 pub use number::{held_number, nine_digits, number_at};
 pub use whole::{ended, whole_description, whole_goal, whole_path};
-
-#[cfg(test)]
-mod tests;

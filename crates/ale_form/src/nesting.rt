@@ -79,7 +79,7 @@ impl Nest {
         self.here = self.here.behind_then();
     }
 
-    /// Goes on behind the symbol.
+    /// Goes on after the symbol.
     fn pass_sign(&mut self, symbol: Symbol) -> Result<(), AllocError>
         requires { self.old.count < 2 ^ 32 }
         ensures { OnOk result (self.new ≡ behind_sign symbol self.old) }
@@ -95,7 +95,7 @@ impl Nest {
         Ok(())
     }
 
-    /// Goes on behind the lexeme.
+    /// Goes on after the lexeme.
     fn pass(&mut self, lexeme: &Lexeme) -> Result<(), AllocError>
         requires { self.old.count < 2 ^ 32 }
         ensures { OnOk result (self.new ≡ behind lexeme.now self.old) }

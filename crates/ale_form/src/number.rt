@@ -5,7 +5,7 @@ ghost use Rattle.ale_form.specs.Numbers.{number_at, number_of, held, greatest, a
 use ale_term::Lexeme;
 use ale_text::Text;
 
-/// The digits of the number that the lexemes begin with, and those behind it.
+/// The digits of the number that the lexemes begin with, and those after it.
 pub fn number_at(lexemes: &[Lexeme]) -> Option<(&Text, &[Lexeme])>
     ensures { option_map (λ p. (p.0.now, p.1.now)) result ≡ number_at lexemes.now }
 {
@@ -31,7 +31,7 @@ pub fn nine_digits()
     ensures { (cs : List ℕ) → IsTrue (are_digits cs) → length cs ≤ 9 → held cs ≡ number_of cs }
 {}
 
-// The number that stands for the digits before and this one, or the greatest.
+/// The number that stands for the digits before and this one, or the greatest.
 fn behind_digit(number: u32, digit: char) -> u32
     ensures { result ≡ min (10 * number + (digit - 48)) greatest }
 {

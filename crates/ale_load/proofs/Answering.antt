@@ -1,5 +1,6 @@
 -- What a call that carries out the functions has answered, in the words of the relations.
-use Rattle.std.proofs.Common.{◌≡◌, ◌≢◌, ℕ, List, Result, Ok, Err, IfOk, IfErr, map, refl, subst}
+use Rattle.std.proofs.Common.{◌≡◌, ◌≢◌, ℕ, List, Result, Ok, Err, IfOk, map, refl, subst}
+use Rattle.std.specs.Prelude.{MatchResult}
 use Rattle.ale_declared.specs.Declarations.{Declared}
 use Rattle.ale_hierarchy.specs.Order.{hierarchy}
 use Rattle.ale_resolve.specs.declared.describing.Described.{Described}
@@ -14,41 +15,33 @@ use Rattle.ale_load.specs.Laws.{LoadLaw, CommandsLaw, FitLaw}
 use Rattle.ale_load.specs.Results.{LoadGives, CommandsGive}
 
 module _ {V : Type 0} (view : V → LoadedData) (law : LoadLaw) (g : List ℕ) where
-  pub loads_found : (r : Result V GrammarError) → LoadGives view r (load_of g) → IfOk r (λ l. IsLoaded g (Ok (view l)))
-  loads_found (Ok l) e = (law g (Ok (view l))).1 e
-  loads_found (Err e) gives = tt
-
   pub loads_as : (r : Result V GrammarError) → LoadGives view r (load_of g) → (answer : Result LoadedData GrammarError) → IsLoaded g answer → LoadGives view r answer
   loads_as r gives answer is = subst (LoadGives view r) ((law g answer).0 is) gives
 
-  pub loads_cause : (r : Result V GrammarError) → LoadGives view r (load_of g) → IfErr r (λ e. e ≢ grammar.NoMemory → IsLoaded g (Err e))
-  loads_cause (Ok l) gives = tt
-  loads_cause (Err grammar.NoMemory) gives = λ n. absurd (n refl)
-  loads_cause (Err grammar.TooLong) gives = λ n. (law g (Err grammar.TooLong)).1 gives
-  loads_cause (Err (grammar.NotText p)) gives = λ n. (law g (Err (grammar.NotText p))).1 gives
-  loads_cause (Err (grammar.Token e)) gives = λ n. (law g (Err (grammar.Token e))).1 gives
-  loads_cause (Err (grammar.Form k e)) gives = λ n. (law g (Err (grammar.Form k e))).1 gives
-  loads_cause (Err (grammar.NotBuilt k)) gives = λ n. (law g (Err (grammar.NotBuilt k))).1 gives
-  loads_cause (Err (grammar.Signature e)) gives = λ n. (law g (Err (grammar.Signature e))).1 gives
+  pub loads_found : (r : Result V GrammarError) → LoadGives view r (load_of g) → MatchResult r (λ l. IsLoaded g (Ok (view l))) (λ e. e ≢ grammar.NoMemory → IsLoaded g (Err e))
+  loads_found (Ok l) e = (law g (Ok (view l))).1 e
+  loads_found (Err grammar.NoMemory) gives = λ n. absurd (n refl)
+  loads_found (Err grammar.TooLong) gives = λ n. (law g (Err grammar.TooLong)).1 gives
+  loads_found (Err (grammar.NotText p)) gives = λ n. (law g (Err (grammar.NotText p))).1 gives
+  loads_found (Err (grammar.Token e)) gives = λ n. (law g (Err (grammar.Token e))).1 gives
+  loads_found (Err (grammar.Form k e)) gives = λ n. (law g (Err (grammar.Form k e))).1 gives
+  loads_found (Err (grammar.NotBuilt k)) gives = λ n. (law g (Err (grammar.NotBuilt k))).1 gives
+  loads_found (Err (grammar.Signature e)) gives = λ n. (law g (Err (grammar.Signature e))).1 gives
 
 module _ {V : Type 0} (view : V → List Query) (law : CommandsLaw) (d : Declared) (c : List ℕ) where
-  pub reads_found : (r : Result V CommandError) → CommandsGive view r (commands_of d c) → IfOk r (λ v. AreCommands d c (Ok (view v)))
-  reads_found (Ok v) e = (law d c (Ok (view v))).1 e
-  reads_found (Err e) gives = tt
-
   pub reads_as : (r : Result V CommandError) → CommandsGive view r (commands_of d c) → (answer : Result (List Query) CommandError) → AreCommands d c answer → CommandsGive view r answer
   reads_as r gives answer are = subst (CommandsGive view r) ((law d c answer).0 are) gives
 
-  pub reads_cause : (r : Result V CommandError) → CommandsGive view r (commands_of d c) → IfErr r (λ e. e ≢ command.NoMemory → AreCommands d c (Err e))
-  reads_cause (Ok v) gives = tt
-  reads_cause (Err command.NoMemory) gives = λ n. absurd (n refl)
-  reads_cause (Err command.TooLong) gives = λ n. (law d c (Err command.TooLong)).1 gives
-  reads_cause (Err (command.NotText p)) gives = λ n. (law d c (Err (command.NotText p))).1 gives
-  reads_cause (Err (command.BadToken p)) gives = λ n. (law d c (Err (command.BadToken p))).1 gives
-  reads_cause (Err (command.NoEnd p)) gives = λ n. (law d c (Err (command.NoEnd p))).1 gives
-  reads_cause (Err (command.BadCommand k)) gives = λ n. (law d c (Err (command.BadCommand k))).1 gives
-  reads_cause (Err (command.NotBuilt k)) gives = λ n. (law d c (Err (command.NotBuilt k))).1 gives
-  reads_cause (Err (command.Name k e)) gives = λ n. (law d c (Err (command.Name k e))).1 gives
+  pub reads_found : (r : Result V CommandError) → CommandsGive view r (commands_of d c) → MatchResult r (λ v. AreCommands d c (Ok (view v))) (λ e. e ≢ command.NoMemory → AreCommands d c (Err e))
+  reads_found (Ok v) e = (law d c (Ok (view v))).1 e
+  reads_found (Err command.NoMemory) gives = λ n. absurd (n refl)
+  reads_found (Err command.TooLong) gives = λ n. (law d c (Err command.TooLong)).1 gives
+  reads_found (Err (command.NotText p)) gives = λ n. (law d c (Err (command.NotText p))).1 gives
+  reads_found (Err (command.BadToken p)) gives = λ n. (law d c (Err (command.BadToken p))).1 gives
+  reads_found (Err (command.NoEnd p)) gives = λ n. (law d c (Err (command.NoEnd p))).1 gives
+  reads_found (Err (command.BadCommand k)) gives = λ n. (law d c (Err (command.BadCommand k))).1 gives
+  reads_found (Err (command.NotBuilt k)) gives = λ n. (law d c (Err (command.NotBuilt k))).1 gives
+  reads_found (Err (command.Name k e)) gives = λ n. (law d c (Err (command.Name k e))).1 gives
 
   pub reads_fit : FitLaw → (r : Result V CommandError) → CommandsGive view r (commands_of d c) → IfOk r (λ v. AllFit (hierarchy d) (view v))
   reads_fit fit (Ok v) e = fit d c (view v) ((law d c (Ok (view v))).1 e)

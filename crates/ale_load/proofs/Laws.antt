@@ -6,7 +6,7 @@ use Rattle.ale_signature.specs.Deciding.{FaultsDecide}
 use Rattle.ale_hierarchy.specs.Hierarchy.{IsLawful}
 use Rattle.ale_hierarchy.specs.Order.{hierarchy}
 use Rattle.ale_signature.specs.Laws.{SignatureLaw}
-use Rattle.ale_declared.specs.Numbering.{DeclaredIsNumbered}
+use Rattle.ale_declared.specs.Numbering.{AreDistinct, NamesAreDistinct, DeclaredIsNumbered}
 use Rattle.ale_hierarchy.specs.Faults.{fault_of}
 use Rattle.ale_load.specs.declared.file_error.FileError.{FileError}
 use Rattle.ale_load.specs.Files.{IsCut, cut_of}
@@ -77,3 +77,13 @@ loaded_lawful lawful numbered g r l (not_accepted ps ds f is read e fault) same 
 loaded_lawful lawful numbered g r l (is_loaded ps ds is read e accepted) same =
     let this : loaded_of ds ≡ l = cc in
     subst (λ (z : LoadedData). IsLawful (hierarchy z.signature_of)) this (lawful (declared_by ds) (numbered (types_of ds)) accepted)
+
+-- and no two of its types have one name
+pub loaded_distinct : NamesAreDistinct → (g : List ℕ) (r : Result LoadedData GrammarError) (l : LoadedData) → IsLoaded g r → r ≡ Ok l → AreDistinct l.signature_of.types
+loaded_distinct distinct g r l (not_cut e is) same = absurd cc
+loaded_distinct distinct g r l (not_read ps x is read) same = absurd cc
+loaded_distinct distinct g r l (not_built ps ds k is read e) same = absurd cc
+loaded_distinct distinct g r l (not_accepted ps ds f is read e fault) same = absurd cc
+loaded_distinct distinct g r l (is_loaded ps ds is read e accepted) same =
+    let this : loaded_of ds ≡ l = cc in
+    subst (λ (z : LoadedData). AreDistinct z.signature_of.types) this (distinct (types_of ds)).0

@@ -5,11 +5,13 @@ use Rattle.ale_term.specs.Terms.{TermData}
 use Rattle.ale_token.specs.declared.token.TokenError.{TokenError}
 use Rattle.ale_token.specs.declared.token.TokenError.TheVariants as token
 use Rattle.ale_form.specs.declared.error.FormError.{FormError}
+use Rattle.ale_form.specs.declared.error.FormError.TheVariants as form
 use Rattle.ale_form.specs.Results.{Answers}
 use Rattle.ale_declared.specs.Declarations.{Declared}
 use Rattle.ale_hierarchy.specs.Hierarchy.{Hierarchy}
 use Rattle.ale_logic.specs.Descriptions.{Description, FitsDescription}
 use Rattle.ale_resolve.specs.declared.error.NameError.{NameError}
+use Rattle.ale_resolve.specs.declared.error.NameError.TheVariants as name
 use Rattle.ale_resolve.specs.Forms.{is_plain, parts}
 use Rattle.ale_resolve.specs.Mentions.{Mention, mentions, IsFirstUnknown, unknown}
 use Rattle.ale_resolve.specs.Resolving.{StandsFor, resolved}
@@ -76,6 +78,19 @@ command_fault file.TooLong = TooLong
 command_fault (file.NotText p) = NotText p
 command_fault (file.Unread e) = token_fault e
 command_fault file.NoMemory = NoMemory
+
+-- why commands with a part that is none are refused, by the number of the part
+abbrev pub form_fault : ℕ → FormError → CommandError
+form_fault k form.TooDeep = BadCommand k
+form_fault k (form.OutOfProfile w) = BadCommand k
+form_fault k form.NotADeclaration = BadCommand k
+form_fault k form.NoMemory = NoMemory
+
+-- why commands are refused one of which has a name that is not declared, by its number
+abbrev pub name_fault : ℕ → NameError → CommandError
+name_fault k (name.UnknownType n) = Name k (name.UnknownType n)
+name_fault k (name.UnknownFeature f) = Name k (name.UnknownFeature f)
+name_fault k name.NoMemory = NoMemory
 
 -- The bytes are commands, or are refused: for the file; else for the first part that is no command; else for the first
 -- command that is not built; else for the first name that is not declared.

@@ -5,6 +5,7 @@ use Rattle.std.specs.Str.Lossy.{utf8_valid_len}
 use Rattle.ale_token.specs.declared.token.Token.{Token}
 use Rattle.ale_token.specs.declared.token.TokenError.{TokenError}
 use Rattle.ale_token.specs.declared.token.TokenError.TheVariants.{BadToken, NoEnd}
+use Rattle.ale_token.specs.declared.token.TokenError.TheVariants as tokens
 use Rattle.ale_token.specs.Tokens.{Reads, BadAt, tokens_of}
 use Rattle.ale_token.specs.Declarations.{Cuts, Unended, declarations_of}
 use Rattle.ale_term.specs.declared.lexeme.Lexeme.{Lexeme}
@@ -26,7 +27,7 @@ pub record IsText (bytes : List ℕ) : Type 0 where
   pub short : length bytes ≤ file_limit
   pub utf8 : IsUtf8 bytes
 
--- The file is cut, or is refused: it has too many bytes; or it is no UTF-8, and its longest front that is has so many bytes;
+-- The file is cut, or is refused: it has too many bytes; or it is no UTF-8, and its longest prefix that is has so many bytes;
 -- or no token begins at p; or tokens that begin at p have no end.
 pub data IsCut (bytes : List ℕ) : Result (List (List Lexeme)) FileError → Type 0 where
   too_long : file_limit < length bytes → IsCut bytes (Err TooLong)
@@ -34,6 +35,12 @@ pub data IsCut (bytes : List ℕ) : Result (List (List Lexeme)) FileError → Ty
   bad_token : (p : ℕ) → IsText bytes → BadAt 0 (chars bytes) p → IsCut bytes (Err (Unread (BadToken p)))
   no_end : (ts : List Token) (p : ℕ) → IsText bytes → Reads 0 (chars bytes) ts → Unended ts p → IsCut bytes (Err (Unread (NoEnd p)))
   cut : (ts : List Token) (rs : List (ℕ × ℕ)) → IsText bytes → Reads 0 (chars bytes) ts → Cuts 0 ts rs → IsCut bytes (Ok (parts bytes ts rs))
+
+-- why a file with such tokens is not cut
+abbrev pub token_fault : TokenError → FileError
+token_fault (BadToken p) = Unread (BadToken p)
+token_fault (NoEnd p) = Unread (NoEnd p)
+token_fault tokens.NoMemory = NoMemory
 
 -- the same as a function, stage by stage
 abbrev pub unread : {A : Type 0} → Result A TokenError → Result A FileError

@@ -3,11 +3,13 @@ use Rattle.std.specs.Prelude.{◌≡◌, ℕ, suc, Bool, true, false, Option, So
 use Rattle.ale_term.specs.declared.lexeme.Lexeme.{Lexeme}
 use Rattle.ale_token.specs.declared.token.TokenError.{TokenError}
 use Rattle.ale_form.specs.declared.error.FormError.{FormError}
+use Rattle.ale_form.specs.declared.error.FormError.TheVariants as form
 use Rattle.ale_declared.specs.declared.decl.SigDecl.{SigDecl}
 use Rattle.ale_declared.specs.declared.decl.SigDecl.TheVariants.{Kind, Ext}
 use Rattle.ale_declared.specs.Declarations.{Declared, declared}
 use Rattle.ale_hierarchy.specs.declared.fault.Fault.{Fault}
 use Rattle.ale_hierarchy.specs.declared.error.SigError.{SigError}
+use Rattle.ale_hierarchy.specs.declared.error.SigError.TheVariants as refusal
 use Rattle.ale_hierarchy.specs.Accepted.{IsAccepted}
 use Rattle.ale_hierarchy.specs.Faults.{fault_of}
 use Rattle.ale_hierarchy.specs.Refusals.{IsFault, named_fault}
@@ -101,6 +103,26 @@ grammar_fault file.TooLong = TooLong
 grammar_fault (file.NotText p) = NotText p
 grammar_fault (file.Unread e) = Token e
 grammar_fault file.NoMemory = NoMemory
+
+-- why a grammar with a part that is no declaration is refused, by the number of the part
+abbrev pub form_fault : ℕ → FormError → GrammarError
+form_fault k form.TooDeep = Form k form.TooDeep
+form_fault k (form.OutOfProfile w) = Form k (form.OutOfProfile w)
+form_fault k form.NotADeclaration = Form k form.NotADeclaration
+form_fault k form.NoMemory = NoMemory
+
+-- why a grammar whose signature is refused is
+abbrev pub signature_fault : SigError → GrammarError
+signature_fault refusal.TooManyTypes = Signature refusal.TooManyTypes
+signature_fault refusal.TooManyFeatures = Signature refusal.TooManyFeatures
+signature_fault (refusal.SubCycle t) = Signature (refusal.SubCycle t)
+signature_fault (refusal.NoJoin a b c d) = Signature (refusal.NoJoin a b c d)
+signature_fault (refusal.TwoIntros f a b) = Signature (refusal.TwoIntros f a b)
+signature_fault (refusal.ValueClash t f) = Signature (refusal.ValueClash t f)
+signature_fault (refusal.Loop t) = Signature (refusal.Loop t)
+signature_fault (refusal.ExtNotMaximal t) = Signature (refusal.ExtNotMaximal t)
+signature_fault (refusal.FillTooLarge t) = Signature (refusal.FillTooLarge t)
+signature_fault refusal.NoMemory = NoMemory
 
 -- The bytes are a grammar, or are refused: for the file; else for the first part that is no declaration; else for the first
 -- declaration that is not built; else for the first fault of the signature.

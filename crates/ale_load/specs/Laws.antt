@@ -1,6 +1,8 @@
--- Files are read in one way or refused for one cause, which the functions give; what is read is lawful and fits.
+-- Files are read in one way or refused for one cause, which the functions give; what is read is lawful, has a name of its own
+-- for each type, and fits.
 use Rattle.std.specs.Prelude.{◌≡◌, ◌↔◌, ℕ, Result, Ok, List}
 use Rattle.ale_declared.specs.Declarations.{Declared}
+use Rattle.ale_declared.specs.Numbering.{AreDistinct}
 use Rattle.ale_hierarchy.specs.Hierarchy.{IsLawful}
 use Rattle.ale_hierarchy.specs.Order.{hierarchy}
 use Rattle.ale_load.specs.declared.grammar_error.GrammarError.{GrammarError}
@@ -14,6 +16,10 @@ LoadLaw = (g : List ℕ) (r : Result LoadedData GrammarError) → IsLoaded g r �
 -- an accepted signature obeys the laws of a hierarchy
 abbrev pub LawfulLaw : Type 0
 LawfulLaw = (g : List ℕ) (l : LoadedData) → IsLoaded g (Ok l) → IsLawful (hierarchy l.signature_of)
+
+-- no two of its types have one name
+abbrev pub DistinctLaw : Type 0
+DistinctLaw = (g : List ℕ) (l : LoadedData) → IsLoaded g (Ok l) → AreDistinct l.signature_of.types
 
 abbrev pub CommandsLaw : Type 0
 CommandsLaw = (d : Declared) (c : List ℕ) (r : Result (List Query) CommandError) → AreCommands d c r ↔ commands_of d c ≡ r

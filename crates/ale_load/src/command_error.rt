@@ -8,7 +8,7 @@ pub enum CommandError {
     /// The file has more than 4,194,304 bytes.
     #[error("TooLong")]
     TooLong,
-    /// So many bytes at its front are UTF-8, and no longer front is.
+    /// So long is its longest prefix that is UTF-8, in bytes.
     #[error("NotText")]
     NotText(usize),
     /// No token begins at this byte, and all before it is tokens, layout and comments.
@@ -23,7 +23,7 @@ pub enum CommandError {
     /// This command, the first such, is of a form that is read but not built, or has more than 100,000 parts.
     #[error("NotBuilt")]
     NotBuilt(usize),
-    /// This command, the first such, has a name that is not declared. It never holds a want of memory.
+    /// This command, the first such, has a name that is not declared. It never holds that memory ran out.
     #[error("Name")]
     Name(usize, NameError),
     /// Memory ran out.

@@ -1,5 +1,5 @@
 //! Commands that are read and whose names are looked up.
-ghost use Rattle.std.specs.Prelude.{◌≡◌, ◌≢◌, ◌≤◌, ◌↔◌, ℕ, suc, true, Option, Some, None, Result, Ok, Err, IfOk, IfErr, IfSome, List, [], map, option_map, length};
+ghost use Rattle.std.specs.Prelude.{◌≡◌, ◌≢◌, ◌≤◌, ◌↔◌, ℕ, suc, true, Option, Some, None, Result, Ok, Err, IfOk, MatchResult, IfSome, List, [], map, option_map, length};
 ghost use Rattle.std.specs.List.{All};
 ghost use Rattle.ale_token.specs.Places.{Stands};
 ghost use Rattle.ale_token.specs.Declarations.{IsDeclaration};
@@ -13,7 +13,7 @@ ghost use Rattle.ale_command.specs.Commands.{CommandData, command_data};
 ghost use Rattle.ale_load.specs.declared.command_error.CommandError.{CommandError};
 ghost use Rattle.ale_load.specs.declared.command_error.CommandError.TheVariants.{NoMemory};
 ghost use Rattle.ale_load.specs.Reading.{each_read, first_without};
-ghost use Rattle.ale_load.specs.Commands.{Query, AllFit, AreCommands, is_built, asked, queries_of, command_fault, token_fault, command_in, formed, after_names, commands_of};
+ghost use Rattle.ale_load.specs.Commands.{Query, AllFit, AreCommands, is_built, asked, queries_of, command_fault, token_fault, form_fault, name_fault, command_in, formed, after_names, commands_of};
 ghost use Rattle.ale_load.specs.Laws.{CommandsLaw, FitLaw};
 ghost use Rattle.ale_load.specs.Results.{CommandsGive};
 ghost use Rattle.ale_load.specs.Views.{parts_in, part_in, query_data};
@@ -52,6 +52,26 @@ fn command_fault(error: FileError) -> CommandError
     }
 }
 
+// Why commands are refused whose part with this number is none.
+fn form_fault(number: usize, error: FormError) -> CommandError
+    ensures { result ≡ form_fault number error }
+{
+    match error {
+        FormError::NoMemory => CommandError::NoMemory,
+        _ => CommandError::BadCommand(number),
+    }
+}
+
+// Why commands are refused of which the one with this number has a name that is not declared.
+fn name_fault(number: usize, error: NameError) -> CommandError
+    ensures { result ≡ name_fault number error }
+{
+    match error {
+        NameError::NoMemory => CommandError::NoMemory,
+        error => CommandError::Name(number, error),
+    }
+}
+
 // The command of this range of tokens.
 fn command(alloc: Global, parts: &Parts, range: (usize, usize)) -> Result<CommandTerm, FormError>
     requires stand { All (Stands parts.now.text.now) parts.now.tokens.items }
@@ -76,8 +96,7 @@ fn commands(alloc: Global, parts: &Parts) -> Result<Vec<CommandTerm>, CommandErr
     for range in ranges {
         match command(alloc, parts, *range) {
             Ok(command) => read.push(command)?,
-            Err(FormError::NoMemory) => return Err(CommandError::NoMemory),
-            Err(_) => return Err(CommandError::BadCommand(read.len() + 1)),
+            Err(error) => return Err(form_fault(read.len() + 1, error)),
         }
     }
     Ok(read)
@@ -120,8 +139,7 @@ fn queries(
         if let Some(term) = asked(command) {
             match describe(alloc, sig, term) {
                 Ok(described) => found.push(described)?,
-                Err(NameError::NoMemory) => return Err(CommandError::NoMemory),
-                Err(error) => return Err(CommandError::Name(index + 1, error)),
+                Err(error) => return Err(name_fault(index + 1, error)),
             }
         }
     }
@@ -148,7 +166,7 @@ fn read_in(alloc: Global, bytes: &[u8], sig: &Signature) -> Result<Vec<Described
 /// # Errors
 ///
 /// The first of these: `TooLong` for more than 4,194,304 bytes; `NotText(p)` where the bytes before `p` are the longest
-/// front that is UTF-8; `BadToken(p)` where no token begins at `p`; `NoEnd(p)` where tokens that begin at `p` have no end;
+/// prefix that is UTF-8; `BadToken(p)` where no token begins at `p`; `NoEnd(p)` where tokens that begin at `p` have no end;
 /// `BadCommand(k)` where command `k` is the first that is none; `NotBuilt(k)` where it is the first of a form that is
 /// read and not built yet, or of more than 100,000 parts; `Name(k, e)` where it is the first with a name that is not
 /// declared, the first of which `e` has. `NoMemory` comes where memory runs out.
@@ -158,10 +176,8 @@ pub fn read_commands(
     sig: &Signature,
 ) -> Result<Vec<Described>, CommandError>
     ensures exact { CommandsGive (λ v. map query_data v.items) result (commands_of sig.now bytes.now) }
-    ensures found { IfOk result (λ v. AreCommands sig.now bytes.now (Ok (map query_data v.items))) }
-    ensures only { (qs : List Query) → AreCommands sig.now bytes.now (Ok qs) → CommandsGive (λ v. map query_data v.items) result (Ok qs) }
-    ensures cause { IfErr result (λ e. e ≢ NoMemory → AreCommands sig.now bytes.now (Err e)) }
-    ensures refused { (e : CommandError) → AreCommands sig.now bytes.now (Err e) → CommandsGive (λ v. map query_data v.items) result (Err e) }
+    ensures found { MatchResult result (λ v. AreCommands sig.now bytes.now (Ok (map query_data v.items))) (λ e. e ≢ NoMemory → AreCommands sig.now bytes.now (Err e)) }
+    ensures only { (answer : Result (List Query) CommandError) → AreCommands sig.now bytes.now answer → CommandsGive (λ v. map query_data v.items) result answer }
     ensures fit { IfOk result (λ v. AllFit (hierarchy sig.now) (map query_data v.items)) }
 {
     commands_law();

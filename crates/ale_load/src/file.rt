@@ -7,7 +7,7 @@ ghost use Rattle.ale_token.specs.Tokens.{tokens_of};
 ghost use Rattle.ale_token.specs.Places.{Stands};
 ghost use Rattle.ale_token.specs.Declarations.{declarations_of, IsDeclaration};
 ghost use Rattle.ale_load.specs.declared.file_error.FileError.TheVariants.{NotText};
-ghost use Rattle.ale_load.specs.Files.{file_limit, unread, cut_of, tokens_cut};
+ghost use Rattle.ale_load.specs.Files.{file_limit, token_fault, unread, cut_of, tokens_cut};
 ghost use Rattle.ale_load.specs.Results.{CutGives};
 ghost use Rattle.ale_load.specs.Views.{parts_in};
 
@@ -39,6 +39,16 @@ fn text_in(bytes: &[u8]) -> Result<&str, FileError>
     }
 }
 
+// Why a file with such tokens is not cut.
+fn token_fault(error: TokenError) -> FileError
+    ensures { result ≡ token_fault error }
+{
+    match error {
+        TokenError::NoMemory => FileError::NoMemory,
+        error => FileError::Unread(error),
+    }
+}
+
 // The tokens of the text.
 fn tokens_in(alloc: Global, text: &str) -> Result<Vec<Token>, FileError>
     ensures exact { CutGives (λ v. v.items) result (unread (tokens_of (chars text.now))) }
@@ -46,9 +56,7 @@ fn tokens_in(alloc: Global, text: &str) -> Result<Vec<Token>, FileError>
 {
     match tokens(alloc, text) {
         Ok(tokens) => Ok(tokens),
-        Err(TokenError::BadToken(place)) => Err(FileError::Unread(TokenError::BadToken(place))),
-        Err(TokenError::NoEnd(place)) => Err(FileError::Unread(TokenError::NoEnd(place))),
-        Err(TokenError::NoMemory) => Err(FileError::NoMemory),
+        Err(error) => Err(token_fault(error)),
     }
 }
 
@@ -59,9 +67,7 @@ fn ranges_in(alloc: Global, tokens: &[Token]) -> Result<Vec<(usize, usize)>, Fil
 {
     match cut_declarations(alloc, tokens) {
         Ok(ranges) => Ok(ranges),
-        Err(TokenError::BadToken(place)) => Err(FileError::Unread(TokenError::BadToken(place))),
-        Err(TokenError::NoEnd(place)) => Err(FileError::Unread(TokenError::NoEnd(place))),
-        Err(TokenError::NoMemory) => Err(FileError::NoMemory),
+        Err(error) => Err(token_fault(error)),
     }
 }
 

@@ -7,10 +7,10 @@ pub enum FileError {
     /// It has more than 4,194,304 bytes.
     #[error("TooLong")]
     TooLong,
-    /// So many bytes at its front are UTF-8, and no longer front is.
+    /// So long is its longest prefix that is UTF-8, in bytes.
     #[error("NotText")]
     NotText(usize),
-    /// Its text has no tokens, or they lack an end. It never holds a want of memory.
+    /// Its text has no tokens, or they lack an end. It never holds that memory ran out.
     #[error("Unread")]
     Unread(TokenError),
     /// Memory ran out.

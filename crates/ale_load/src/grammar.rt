@@ -1,5 +1,5 @@
 //! Grammars that are loaded.
-ghost use Rattle.std.specs.Prelude.{◌≡◌, ◌<◌, ◌≢◌, ◌↔◌, ℕ, suc, Result, Ok, Err, OnOk, IfOk, IfErr, List, [], ◌++◌, map, length};
+ghost use Rattle.std.specs.Prelude.{◌≡◌, ◌<◌, ◌≢◌, ◌↔◌, ℕ, suc, Result, Ok, Err, OnOk, IfOk, MatchResult, List, [], ◌++◌, map, length};
 ghost use Rattle.std.specs.List.{All};
 ghost use Rattle.ale_token.specs.Places.{Stands};
 ghost use Rattle.ale_token.specs.Declarations.{IsDeclaration};
@@ -15,8 +15,8 @@ ghost use Rattle.ale_load.specs.declared.grammar_error.GrammarError.{GrammarErro
 ghost use Rattle.ale_load.specs.declared.grammar_error.GrammarError.TheVariants.{NoMemory};
 ghost use Rattle.ale_load.specs.Files.{IsCut, cut_of};
 ghost use Rattle.ale_load.specs.Reading.{each_read, first_without};
-ghost use Rattle.ale_load.specs.Grammars.{is_built, built_of, types_in, types_of, passed_in, passed_from, LoadedData, IsLoaded, grammar_fault, declaration_in, formed, declared_by, after_signature, load_of};
-ghost use Rattle.ale_load.specs.Laws.{LoadLaw, LawfulLaw};
+ghost use Rattle.ale_load.specs.Grammars.{is_built, built_of, types_in, types_of, passed_in, passed_from, LoadedData, IsLoaded, grammar_fault, form_fault, signature_fault, declaration_in, formed, declared_by, after_signature, load_of};
+ghost use Rattle.ale_load.specs.Laws.{LoadLaw, LawfulLaw, DistinctLaw};
 ghost use Rattle.ale_load.specs.Results.{LoadGives};
 ghost use Rattle.ale_load.specs.Views.{parts_in, part_in, passed_data, loaded_data};
 
@@ -25,7 +25,7 @@ use crate::file::{Parts, cut};
 use crate::file_error::FileError;
 use crate::grammar_error::GrammarError;
 use ale_declaration::{Declaration, one_declaration, read_declaration};
-use ale_declared::SigDecl;
+use ale_declared::{SigDecl, numbering_law};
 use ale_form::FormError;
 use ale_signature::{SigError, Signature, fault_law, signature_law};
 use ale_term::add;
@@ -62,6 +62,26 @@ fn grammar_fault(error: FileError) -> GrammarError
     }
 }
 
+// Why a grammar is refused whose declaration with this number is.
+fn form_fault(number: usize, error: FormError) -> GrammarError
+    ensures { result ≡ form_fault number error }
+{
+    match error {
+        FormError::NoMemory => GrammarError::NoMemory,
+        error => GrammarError::Form(number, error),
+    }
+}
+
+// Why a grammar is refused whose signature is.
+fn signature_fault(error: SigError) -> GrammarError
+    ensures { result ≡ signature_fault error }
+{
+    match error {
+        SigError::NoMemory => GrammarError::NoMemory,
+        error => GrammarError::Signature(error),
+    }
+}
+
 // The declaration of this range of tokens.
 fn declaration(
     alloc: Global,
@@ -90,8 +110,7 @@ fn declarations(alloc: Global, parts: &Parts) -> Result<Vec<Declaration>, Gramma
     for range in ranges {
         match declaration(alloc, parts, *range) {
             Ok(declaration) => read.push(declaration)?,
-            Err(FormError::NoMemory) => return Err(GrammarError::NoMemory),
-            Err(error) => return Err(GrammarError::Form(read.len() + 1, error)),
+            Err(error) => return Err(form_fault(read.len() + 1, error)),
         }
     }
     Ok(read)
@@ -187,8 +206,7 @@ fn built(alloc: Global, declarations: &[Declaration]) -> Result<Loaded, GrammarE
             signature,
             passed: Row::of(sorted.passed),
         }),
-        Err(SigError::NoMemory) => Err(GrammarError::NoMemory),
-        Err(error) => Err(GrammarError::Signature(error)),
+        Err(error) => Err(signature_fault(error)),
     }
 }
 
@@ -214,15 +232,13 @@ fn load_in(alloc: Global, bytes: &[u8]) -> Result<Loaded, GrammarError>
 /// # Errors
 ///
 /// The first of these: `TooLong` for more than 4,194,304 bytes; `NotText(p)` where the bytes before `p` are the longest
-/// front that is UTF-8; `Token` where the text has no tokens, or tokens have no end; `Form(k, e)` where declaration `k` is
+/// prefix that is UTF-8; `Token` where the text has no tokens, or tokens have no end; `Form(k, e)` where declaration `k` is
 /// the first that is refused, for `e`; `NotBuilt(k)` where it is the first of a form that is read and not built yet;
 /// `Signature` for the fault of the signature. `NoMemory` comes where memory runs out.
 pub fn load(alloc: Global, bytes: &[u8]) -> Result<Loaded, GrammarError>
     ensures exact { LoadGives loaded_data result (load_of bytes.now) }
-    ensures found { IfOk result (λ l. IsLoaded bytes.now (Ok (loaded_data l))) }
-    ensures only { (l : LoadedData) → IsLoaded bytes.now (Ok l) → LoadGives loaded_data result (Ok l) }
-    ensures cause { IfErr result (λ e. e ≢ NoMemory → IsLoaded bytes.now (Err e)) }
-    ensures refused { (e : GrammarError) → IsLoaded bytes.now (Err e) → LoadGives loaded_data result (Err e) }
+    ensures found { MatchResult result (λ l. IsLoaded bytes.now (Ok (loaded_data l))) (λ e. e ≢ NoMemory → IsLoaded bytes.now (Err e)) }
+    ensures only { (answer : Result LoadedData GrammarError) → IsLoaded bytes.now answer → LoadGives loaded_data result answer }
     ensures accepted { IfOk result (λ l. IsAccepted l.signature) }
     ensures lawful { IfOk result (λ l. IsLawful (hierarchy l.signature)) }
 {
@@ -231,12 +247,14 @@ pub fn load(alloc: Global, bytes: &[u8]) -> Result<Loaded, GrammarError>
 }
 
 /// The bytes of a grammar are loaded as one thing or refused for one cause, which the function that `load` carries out
-/// gives; and the signature of a grammar that is loaded obeys the laws of a hierarchy.
+/// gives; and the signature of a grammar that is loaded obeys the laws of a hierarchy, and no two of its types have one name.
 pub fn load_law()
     ensures loads { LoadLaw }
     ensures lawful { LawfulLaw }
+    ensures distinct { DistinctLaw }
 {
     one_declaration();
     fault_law();
     signature_law();
+    numbering_law();
 }

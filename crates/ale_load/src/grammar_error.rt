@@ -10,19 +10,19 @@ pub enum GrammarError {
     /// It has more than 4,194,304 bytes.
     #[error("TooLong")]
     TooLong,
-    /// So many bytes at its front are UTF-8, and no longer front is.
+    /// So long is its longest prefix that is UTF-8, in bytes.
     #[error("NotText")]
     NotText(usize),
-    /// No token begins at a byte, or tokens lack an end. It never holds a want of memory.
+    /// No token begins at a byte, or tokens lack an end. It never holds that memory ran out.
     #[error("Token")]
     Token(TokenError),
-    /// This declaration, the first such, is refused. It never holds a want of memory.
+    /// This declaration, the first such, is refused. It never holds that memory ran out.
     #[error("Form")]
     Form(usize, FormError),
     /// This declaration, the first such, is of a form that is read but not built.
     #[error("NotBuilt")]
     NotBuilt(usize),
-    /// The signature is refused. It never holds a want of memory.
+    /// The signature is refused. It never holds that memory ran out.
     #[error("Signature")]
     Signature(SigError),
     /// Memory ran out.

@@ -10,7 +10,9 @@ pub mod Rising
 pub mod Spelled
 pub mod Stepping
 pub mod Tagged
+pub mod Taken
 pub mod Tallies
 pub mod Telling
 pub mod Underway
+pub mod VisibleTexts
 pub mod Walks

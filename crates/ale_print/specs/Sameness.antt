@@ -1,13 +1,13 @@
 -- When two structures are the same up to the numbers of their nodes, as far as they are visible; and what texts tell
 -- of structures. Source: alphabetic variants of feature structures, Carpenter 1992, chapter 3.
-use Rattle.std.specs.Prelude.{◌≡◌, ◌⊎◌, ℕ, ◌<◌, ◌^◌, List, [], map, option_map, length}
+use Rattle.std.specs.Prelude.{◌≡◌, ◌⊎◌, ℕ, ◌<◌, ◌^◌, IsTrue, List, [], map, option_map, length}
 use Rattle.ale_declared.specs.Declarations.{Declared}
 use Rattle.ale_declared.specs.Lists.{Has}
 use Rattle.ale_hierarchy.specs.Hierarchy.{IsLawful}
 use Rattle.ale_hierarchy.specs.Order.{hierarchy}
 use Rattle.ale_declared.specs.Numbering.{AreDistinct}
-use Rattle.ale_graph.specs.Structures.{Structure, IsStructure, count, node_at, type_of}
-use Rattle.ale_morphism.specs.Visible.{Visible}
+use Rattle.ale_graph.specs.Structures.{Structure, IsStructure, count, node_at, type_of, is_formed}
+use Rattle.ale_morphism.specs.Visible.{Visible, visible}
 use Rattle.ale_print.specs.Texts.{answer_text}
 
 -- the two nodes differ, in whichever order the pair stands
@@ -45,3 +45,8 @@ TextsTell =
     → IsStructure (hierarchy d) s → IsStructure (hierarchy d) t → IsNamed names s → IsNamed names t
     → count s < 2 ^ 64 → count t < 2 ^ 64
     → answer_text d names s ≡ answer_text d names t → IsSame s t
+
+-- A structure and its visible part have one text.
+abbrev pub VisibleTexts : Type 0
+VisibleTexts =
+    (d : Declared) (names : List (List ℕ)) (s : Structure) → IsTrue (is_formed s) → answer_text d names s ≡ answer_text d names (visible s)

@@ -42,7 +42,7 @@ met_again lines (Root i) n = lines ++ line_of (Root i) (Again n) ∷ []
 met_again lines (Value level f) n = lines ++ line_of (Value level f) (Again n) ∷ []
 met_again lines Also n = lines
 
--- The lines after one stop: `along` goes on to the stops behind it, `deeper` first to the values of a node that is
+-- The lines after one stop: `along` goes on to the stops after it, `deeper` first to the values of a node that is
 -- met there for the first time.
 abbrev pub at_stop : Structure → List Line → Place → Option ℕ → (List Line → List Line) → (List Line → List Stop → List Line) → List Line
 at_stop s lines p None along deeper = along (lines ++ line_of p Unbound ∷ [])

@@ -1,5 +1,5 @@
 ghost use Rattle.ale_print.specs.Naming.{NamesAreReadBack, PlainIsAtom};
-ghost use Rattle.ale_print.specs.Sameness.{TextsTell};
+ghost use Rattle.ale_print.specs.Sameness.{TextsTell, VisibleTexts};
 
 /// The law of printed names: what is written of a name is one token of the language, and that stands for the name; and
 /// a name is plain exactly where the whole of it reads as an atom.
@@ -12,4 +12,9 @@ pub fn printed_names()
 /// part up to the numbers of their nodes, roots and differing pairs included.
 pub fn texts_tell()
     ensures { TextsTell }
+{}
+
+/// The law of what a text leaves out: a structure and its visible part have one text.
+pub fn visible_texts()
+    ensures { VisibleTexts }
 {}

@@ -5,6 +5,7 @@
 #![tactic(auto)]
 
 mod answer;
+mod flags;
 mod laws;
 mod line;
 mod name;
@@ -14,6 +15,6 @@ mod text;
 mod walk;
 
 pub use answer::print_answer;
-pub use laws::{printed_names, texts_tell};
+pub use laws::{printed_names, texts_tell, visible_texts};
 pub use line::{Line, Place, Shown, Stop};
 pub use name::print_name;

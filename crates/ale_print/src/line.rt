@@ -3,11 +3,11 @@ use ale_signature::FeatId;
 /// Where a line of the text stands.
 #[derive(Clone, Copy, Debug)]
 pub enum Place {
-    /// At the front, as the root with this number.
+    /// At the start of a line, as the root with this number.
     Root(usize),
     /// So many levels deep, as the value by this feature.
     Value(usize, FeatId),
-    /// At the front, as a node of a differing pair that no line has had before.
+    /// At the start of a line, as a node of a differing pair that no line has had before.
     Also,
 }
 

@@ -4,17 +4,9 @@ ghost use Rattle.ale_declared.specs.Lists.{every};
 ghost use Rattle.ale_print.specs.Tagging.{tag_in};
 ghost use Rattle.ale_print.specs.Steps.{AreOnce, is_shown_below, flag_lines, flag_pairs, tag_lines, Tags};
 
+use crate::flags::{flag_of, set_flag};
 use crate::line::{Line, Shown};
 use std::alloc::{AllocError, Global};
-
-// Flags the node.
-fn set_flag(flags: &mut Vec<bool>, node: usize)
-    ensures { flags.new.items ≡ slice_set flags.old.items node true }
-{
-    if let Some(flag) = flags.get_mut(node) {
-        *flag = true;
-    }
-}
 
 // Flags the nodes that are met again.
 fn flag_lines(flags: &mut Vec<bool>, lines: &[Line])
@@ -34,16 +26,6 @@ fn flag_pairs(flags: &mut Vec<bool>, pairs: &[(usize, usize)])
     for pair in pairs {
         set_flag(flags, pair.0);
         set_flag(flags, pair.1);
-    }
-}
-
-// Whether the node is flagged.
-fn flag_of(flags: &[bool], node: usize) -> bool
-    ensures { result ≡ get_or flags.now node false }
-{
-    match flags.get(node) {
-        Some(flag) => *flag,
-        None => false,
     }
 }
 

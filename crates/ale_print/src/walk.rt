@@ -5,29 +5,11 @@ ghost use Rattle.ale_print.specs.Pairing.{in_order};
 ghost use Rattle.ale_print.specs.Walking.{level_below, met_again, stop_below, line_of, root_stops, also_stops, lines_of};
 ghost use Rattle.ale_print.specs.Steps.{from_top, to_come, IsUnderway};
 
+use crate::flags::{flag_of, set_flag};
 use crate::line::{Line, Place, Shown, Stop};
 use ale_graph::Graph;
 use ale_signature::FeatId;
 use std::alloc::{AllocError, Global};
-
-// Whether the node is flagged.
-fn flag_of(flags: &[bool], node: usize) -> bool
-    ensures { result ≡ get_or flags.now node false }
-{
-    match flags.get(node) {
-        Some(flag) => *flag,
-        None => false,
-    }
-}
-
-// Flags the node.
-fn set_flag(flags: &mut Vec<bool>, node: usize)
-    ensures { flags.new.items ≡ slice_set flags.old.items node true }
-{
-    if let Some(flag) = flags.get_mut(node) {
-        *flag = true;
-    }
-}
 
 // How deep the values stand of a node that is met at the place.
 fn level_below(place: Place) -> usize

@@ -8,6 +8,3 @@ mod rows;
 pub use closure::reachability;
 pub use laws::paths_compose;
 pub use rows::Relation;
-
-#[cfg(test)]
-mod tests;

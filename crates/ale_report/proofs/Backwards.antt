@@ -28,6 +28,13 @@ has_reverse (y ∷ ys) x h = elim (has_either (reverse ys) (y ∷ []) x (subst (
   | inr b ↦ elim b [ inl e ↦ inl e | inr none ↦ absurd none ]
 ]
 
+pub reverse_has : {A : Type 0} (xs : List A) (x : A) → Has xs x → Has (reverse xs) x
+reverse_has xs x h = has_reverse (reverse xs) x (subst (λ zs. Has zs x) (sym (reverse-reverse xs)) h)
+
+-- what is left holds an element, or it was the last one
+pub left_or_last : {A : Type 0} (xs : List A) (y x : A) → Has (xs ++ y ∷ []) x → Has xs x ⊎ (x ≡ y)
+left_or_last xs y x h = elim (has_either xs (y ∷ []) x h) [ inl k ↦ inl k | inr k ↦ elim k [ inl e ↦ inr e | inr none ↦ absurd none ] ]
+
 -- at the start all are left
 pub all_left : (d : Declared) (xs rest : List Answer) (n : ℕ) → rest ≡ reverse xs → n ≡ length xs →
     answers_text d (suc (n - length rest)) (reverse rest) ≡ answers_text d 1 xs

@@ -1,2 +1,4 @@
 pub mod Backwards
 pub mod Printed
+pub mod Seen
+pub mod Written

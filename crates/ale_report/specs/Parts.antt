@@ -10,6 +10,7 @@ use Rattle.ale_logic.specs.declared.answer.Answer.{Answer}
 use Rattle.ale_logic.specs.Descriptions.{Description}
 use Rattle.ale_logic.specs.States.{start}
 use Rattle.ale_logic.specs.Visits.{Outcome, search}
+use Rattle.ale_morphism.specs.Visible.{visible}
 use Rattle.ale_print.specs.Texts as print
 
 -- the search for what satisfies a description with so many variables
@@ -20,8 +21,12 @@ searched d budget slots desc = search (hierarchy d) budget (start slots desc ∷
 abbrev pub rooted : Closed → Structure
 rooted c = record { nodes = c.graph.nodes; differ = c.graph.differ; roots = Some (node_of c 0) ∷ [] }
 
+-- the structure that is written of an answer: what is visible of its graph from there
+abbrev pub written : Answer → Structure
+written c = visible (rooted c.closed)
+
 abbrev pub answer_text : Declared → ℕ → Answer → List ℕ
-answer_text d j c = codes "answer " ++ decimal j ++ codes "\n" ++ encode_utf8_all (print.answer_text d [] (rooted c.closed))
+answer_text d j c = codes "answer " ++ decimal j ++ codes "\n" ++ encode_utf8_all (print.answer_text d [] (written c))
 
 -- the answers, counted from j on
 abbrev pub answers_text : Declared → ℕ → List Answer → List ℕ

@@ -2,6 +2,8 @@
 #![tactic(auto)]
 
 mod command;
+mod laws;
 mod root;
 
 pub use command::push_command;
+pub use laws::written_law;

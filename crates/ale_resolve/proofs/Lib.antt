@@ -1,4 +1,5 @@
 pub mod Conjoining
+pub mod LookedUp
 pub mod Loops
 pub mod Meaning
 pub mod Numbering

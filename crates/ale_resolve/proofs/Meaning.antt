@@ -16,7 +16,7 @@ use Rattle.ale_resolve.specs.declared.error.NameError.{NameError}
 use Rattle.ale_resolve.specs.declared.error.NameError.TheVariants.{UnknownType, UnknownFeature, NoMemory}
 use Rattle.ale_resolve.specs.Forms.{parts, parts_of_all, has_no_choice, have_no_choice}
 use Rattle.ale_resolve.specs.Variables.{slot_of, with_variable}
-use Rattle.ale_resolve.specs.Mentions.{Mention, type, feature, mentions, mentions_of_all, IsDeclared, IsFirstUnknown, Causes}
+use Rattle.ale_resolve.specs.Mentions.{Mention, type, feature, mentions, mentions_of_all, IsDeclared, IsFirstUnknown}
 use Rattle.ale_resolve.specs.Results.{Fails}
 use Rattle.ale_resolve.specs.Resolving.{IsPath, ended, step, StandsFor, AllStandFor, a_type, a_variable, a_value, a_conjunction, a_disjunction, an_equation, no_more, one_more, with, found, type_of, feature_of, path_of, resolved, all_resolved}
 use Rattle.ale_resolve.proofs.Numbering.{named_there, named_below, slot_found, slot_only, slot_below}
@@ -357,15 +357,3 @@ mutual
       | inr s ↦ absurd (no_err (more r.0.0 s.0.0, s.0.1) e s.2)
     ]
   ]
-
--- the fault that is answered has its cause
-pub causes : (d : Declared) (vs : List (List ℕ)) (t : TermData) (e : NameError) → Fails e (resolved d vs t) → Causes d t e
-causes d vs t (UnknownType n) f = caused d vs t (UnknownType n) f
-causes d vs t (UnknownFeature n) f = caused d vs t (UnknownFeature n) f
-causes d vs t NoMemory f = tt
-
--- no fault but want of memory is answered where the term stands for something
-pub no_fault : (d : Declared) (vs : List (List ℕ)) (t : TermData) (e : NameError) → Fails e (resolved d vs t) → (x : Description) (us : List (List ℕ)) → StandsFor d vs t x us → e ≡ NoMemory
-no_fault d vs t (UnknownType n) f x us s = absurd (no_err (x, us) (UnknownType n) (sym (given d vs us t x s) ∙ f))
-no_fault d vs t (UnknownFeature n) f x us s = absurd (no_err (x, us) (UnknownFeature n) (sym (given d vs us t x s) ∙ f))
-no_fault d vs t NoMemory f x us s = refl

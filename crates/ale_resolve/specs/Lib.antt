@@ -1,4 +1,5 @@
 pub mod Forms
+pub mod LookedUp
 pub mod Mentions
 pub mod Numbers
 pub mod Resolving

@@ -5,7 +5,7 @@ use Rattle.ale_relation.specs.Has.{Has}
 use Rattle.ale_declared.specs.Declarations.{Declared}
 use Rattle.ale_term.specs.Terms.{TermData, TermsData, name, slot, at, all, any, differs, meet, macro, list, list_with, none, more}
 use Rattle.ale_resolve.specs.declared.error.NameError.{NameError}
-use Rattle.ale_resolve.specs.declared.error.NameError.TheVariants.{UnknownType, UnknownFeature, NoMemory}
+use Rattle.ale_resolve.specs.declared.error.NameError.TheVariants.{UnknownType, UnknownFeature}
 
 -- a name where a type stands, or where a feature stands
 pub data Mention : Type 0 where
@@ -43,9 +43,3 @@ IsFirstUnknown d (x ∷ xs) m = ((IsDeclared d x → ⊥) × (x ≡ m)) ⊎ (IsD
 abbrev pub unknown : Mention → NameError
 unknown (type n) = UnknownType n
 unknown (feature f) = UnknownFeature f
-
--- why there is no description: the first name that is not declared; memory may run out for no cause
-abbrev pub Causes : Declared → TermData → NameError → Type 0
-Causes d t (UnknownType n) = IsFirstUnknown d (mentions t) (type n)
-Causes d t (UnknownFeature f) = IsFirstUnknown d (mentions t) (feature f)
-Causes d t NoMemory = Unit {0}

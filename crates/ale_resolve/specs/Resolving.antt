@@ -1,5 +1,5 @@
 -- The description that a written one stands for: its names are looked up among the declared types and features, and its
--- variables have slots. The variables before it are vs and those behind it us.
+-- variables have slots. The variables before it are vs and those after it us.
 -- Source: the description language, Carpenter 1992, chapter 4, and the ALE 3.2 User's Guide.
 use Rattle.std.specs.Prelude.{◌≡◌, ℕ, Option, Some, None, Result, Ok, Err, List, [], ◌∷◌}
 use Rattle.ale_declared.specs.Declarations.{Declared}

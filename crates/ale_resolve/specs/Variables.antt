@@ -8,7 +8,7 @@ use Rattle.ale_declared.specs.Names.{same_name, is_named, number, named}
 abbrev pub anonymous : List ℕ
 anonymous = codes "_"
 
--- Behind the variables vs the variable x has slot k, and the variables with it are us.
+-- After the variables vs the variable x has slot k, and the variables with it are us.
 pub data IsSlot (vs : List (List ℕ)) (x : List ℕ) : ℕ → List (List ℕ) → Type 0 where
   own : x ≡ anonymous → IsSlot vs x (length vs) (vs ++ x ∷ [])
   first : (x ≡ anonymous → ⊥) → (Has vs x → ⊥) → IsSlot vs x (length vs) (vs ++ x ∷ [])

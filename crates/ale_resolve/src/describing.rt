@@ -1,11 +1,12 @@
-ghost use Rattle.std.specs.Prelude.{◌≡◌, ◌≤◌, ◌+◌, ◌^◌, IfOk, IfErr, List, ℕ, [], true, length};
+ghost use Rattle.std.specs.Prelude.{◌≡◌, ◌≢◌, ◌≤◌, ◌+◌, ◌^◌, IfOk, MatchResult, Result, Ok, Err, List, ℕ, [], true, length};
 ghost use Rattle.ale_hierarchy.specs.Order.{hierarchy};
 ghost use Rattle.ale_term.specs.Terms.{term_data};
 ghost use Rattle.ale_logic.specs.Descriptions.{Description, description, FitsDescription, HasNoChoice, parts as parts_described};
 ghost use Rattle.ale_resolve.specs.declared.error.NameError.TheVariants.{NoMemory};
 ghost use Rattle.ale_resolve.specs.Forms.{is_plain, parts, has_no_choice};
-ghost use Rattle.ale_resolve.specs.Mentions.{Causes};
-ghost use Rattle.ale_resolve.specs.Resolving.{StandsFor, resolved, type_of, feature_of, path_of};
+ghost use Rattle.ale_resolve.specs.declared.error.NameError.{NameError};
+ghost use Rattle.ale_resolve.specs.LookedUp.{IsLookedUp};
+ghost use Rattle.ale_resolve.specs.Resolving.{resolved, type_of, feature_of, path_of};
 ghost use Rattle.ale_resolve.specs.Results.{Gives};
 
 use crate::error::NameError;
@@ -59,7 +60,7 @@ fn path_of(alloc: Global, sig: &Signature, names: &[Text]) -> Result<Row<FeatId>
     Ok(Row::of(path))
 }
 
-/// The description that the term stands for behind these variables, which it adds its own to.
+/// The description that the term stands for after these variables, which it adds its own to.
 #[tactic(auto, using(ale_logic::proofs::Terms::description_rules, ale_term::proofs::Terms::term_rules))]
 fn look_up(
     alloc: Global,
@@ -104,18 +105,19 @@ fn look_up(
 
 /// The description that the written one stands for, by the types and features of the signature.
 ///
-/// The error is the first name from left to right that is that of no type or of no feature, or want of memory.
+/// # Errors
+///
+/// `UnknownType(n)` or `UnknownFeature(f)` exactly where that is the first name from left to right that is not declared;
+/// and `NoMemory` where memory runs out.
 pub fn describe(alloc: Global, sig: &Signature, term: &Term) -> Result<Described, NameError>
     requires plain { is_plain (term_data term.now) ≡ true }
     requires few { parts (term_data term.now) ≤ 100000 }
     ensures exact { Gives (λ r. (description r.desc, r.names)) result (resolved sig.now [] (term_data term.now)) }
     ensures slots { IfOk result (λ r. r.slots ≡ length r.names) }
-    ensures found { IfOk result (λ r. StandsFor sig.now [] (term_data term.now) (description r.desc) r.names) }
-    ensures only { IfOk result (λ r. (x : Description) (us : List (List ℕ)) → StandsFor sig.now [] (term_data term.now) x us
-        → (description r.desc ≡ x) × (r.names ≡ us)) }
-    ensures cause { IfErr result (λ e. Causes sig.now (term_data term.now) e) }
-    ensures refused { IfErr result (λ e. (x : Description) (us : List (List ℕ)) → StandsFor sig.now [] (term_data term.now) x us
-        → e ≡ NoMemory) }
+    ensures found { MatchResult result (λ r. IsLookedUp sig.now (term_data term.now) (Ok (description r.desc, r.names)))
+        (λ e. e ≢ NoMemory → IsLookedUp sig.now (term_data term.now) (Err e)) }
+    ensures only { (answer : Result (Description × List (List ℕ)) NameError) → IsLookedUp sig.now (term_data term.now) answer
+        → Gives (λ r. (description r.desc, r.names)) result answer }
     ensures fits { IfOk result (λ r. FitsDescription (hierarchy sig.now) r.slots (description r.desc)) }
     ensures parts { IfOk result (λ r. parts_described (description r.desc) ≡ parts (term_data term.now)) }
     ensures no_choice { has_no_choice (term_data term.now) ≡ true → IfOk result (λ r. HasNoChoice (description r.desc)) }

@@ -5,8 +5,6 @@ mod describing;
 mod error;
 mod forms;
 mod slots;
-#[cfg(test)]
-mod tests;
 
 pub use describing::{Described, describe};
 pub use error::NameError;

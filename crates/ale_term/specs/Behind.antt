@@ -1,4 +1,4 @@
--- What stands behind the bracket that closes the innermost one still open, found by counting brackets alone. It
+-- What stands after the bracket that closes the innermost one still open, found by counting brackets alone. It
 -- doesn't matter of which of the two kinds a bracket is.
 use Rattle.std.specs.Prelude.{ℕ, zero, suc, Bool, true, false, if◌then◌else◌, Option, Some, None, List, [], ◌∷◌}
 use Rattle.ale_term.specs.declared.symbol.Symbol.{Symbol}
@@ -61,7 +61,7 @@ abbrev pub one_less : ℕ → Option ℕ
 one_less zero = None
 one_less (suc n) = Some n
 
--- how many brackets are open behind the lexeme, where so many were before it, apart from one; None where it closes
+-- how many brackets are open after the lexeme, where so many were before it, apart from one; None where it closes
 -- that one
 abbrev pub depth_behind : Lexeme → ℕ → Option ℕ
 depth_behind (Sign s) n = if opens s then Some (suc n) else if closes s then one_less n else Some n
@@ -72,12 +72,12 @@ depth_behind (Number t) n = Some n
 depth_behind Other n = Some n
 depth_behind End n = Some n
 
--- the lexemes behind a lexeme where it closes the last bracket, else what `later` has of those still open
+-- the lexemes after a lexeme where it closes the last bracket, else what `later` has of those still open
 abbrev pub unless_closed : Option ℕ → List Lexeme → (ℕ → List Lexeme) → List Lexeme
 unless_closed None ls later = ls
 unless_closed (Some n) ls later = later n
 
--- behind the bracket that closes the last, where so many others are open
+-- after the bracket that closes the last, where so many others are open
 abbrev pub behind : ℕ → List Lexeme → List Lexeme
 behind n [] = []
 behind n (l ∷ ls) = unless_closed (depth_behind l n) ls (λ k. behind k ls)

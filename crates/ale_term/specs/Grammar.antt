@@ -96,7 +96,7 @@ mutual
   pub data IsGoal : List Lexeme → GoalData → Type 0 where
     alternatives : (xs : List Lexeme) (gs : List GoalData) → AreAlternatives xs gs → IsGoal xs (either_of gs)
 
-  -- they are one part each; but all that follows the ";" behind a "->" is its else, one goal
+  -- they are one part each; but all that follows the ";" after a "->" is its else, one goal
   pub data AreAlternatives : List Lexeme → List GoalData → Type 0 where
     last_alternative : (xs : List Lexeme) (g : GoalData) → IsGoalConjunction xs g → AreAlternatives xs (g ∷ [])
     alternative : (xs ys : List Lexeme) (g : GoalData) (gs : List GoalData) → IsGoalConjunction xs g → AreAlternatives ys gs →

@@ -1,5 +1,5 @@
--- The reading of lexemes as functions, by levels. A reader reads at the front of lexemes, and gives what it read with
--- the lexemes behind it, or None where nothing of its form stands there.
+-- The reading of lexemes as functions, by levels. A reader reads at the start of lexemes, and gives what it read with
+-- the lexemes after it, or None where nothing of its form stands there.
 use Rattle.std.specs.Prelude.{ℕ, zero, suc, Bool, true, false, ◌==◌, if◌then◌else◌, Option, Some, None, List, [], ◌∷◌, length, codes}
 use Rattle.std.specs.Str.{bytes_eq}
 use Rattle.ale_term.specs.declared.symbol.Symbol.{Symbol}
@@ -21,7 +21,7 @@ abbrev pub choose : {A B : Type 0} → Option A → Option B → (A → Option B
 choose None otherwise next = otherwise
 choose (Some x) otherwise next = next x
 
--- reads at the front of lexemes
+-- reads at the start of lexemes
 abbrev pub Reader : Type 0 → Type 0
 Reader A = List Lexeme → Option (A × List Lexeme)
 
@@ -51,7 +51,7 @@ symbol_number Exclamation = 20
 symbol_number Slash = 21
 symbol_number Greater = 22
 
--- behind this symbol, where the lexeme before the others is it
+-- after this symbol, where the lexeme before the others is it
 abbrev pub past_sign : Symbol → Lexeme → List Lexeme → Option (List Lexeme)
 past_sign s (Sign k) ls = if symbol_number k == symbol_number s then Some ls else None
 past_sign s (Atom n) ls = None
@@ -61,12 +61,12 @@ past_sign s (Number n) ls = None
 past_sign s Other ls = None
 past_sign s End ls = None
 
--- behind this symbol
+-- after this symbol
 abbrev pub past : Symbol → List Lexeme → Option (List Lexeme)
 past s [] = None
 past s (l ∷ ls) = past_sign s l ls
 
--- behind this word
+-- after this word
 abbrev pub past_word : List ℕ → List Lexeme → Option (List Lexeme)
 past_word w [] = None
 past_word w (Atom n ∷ ls) = if bytes_eq n w then Some ls else None
@@ -104,7 +104,7 @@ more_at (suc n) s one ls =
 abbrev pub separated_at : {A : Type 0} → Symbol → Reader A → Reader (List A)
 separated_at s one ls = one ls >>= λ x. more_at (length x.1) s one x.1 >>= λ xs. Some (x.0 ∷ xs.0, xs.1)
 
--- what was read, with the lexemes behind the symbol that follows it
+-- what was read, with the lexemes after the symbol that follows it
 abbrev pub ended_by : {A : Type 0} → Symbol → Option (A × List Lexeme) → Option (A × List Lexeme)
 ended_by s read = read >>= λ x. past s x.1 >>= λ behind. Some (x.0, behind)
 
@@ -148,7 +148,7 @@ call_of deep ls = atom_at ls >>= λ n. arguments_at deep n.1 >>= λ ts. Some ((n
 abbrev pub named_at : Reader TermData → List ℕ → Reader TermData
 named_at deep n ls = choose (past Colon ls) (Some (name n, ls)) (λ behind. deep behind >>= λ t. Some (at n t.0, t.1))
 
--- "(" description ")", behind the bracket
+-- "(" description ")", after the bracket
 abbrev pub group_at : Reader TermData → Reader TermData
 group_at deep ls = ended_by CloseRound (disjunction_at deep ls)
 
@@ -159,7 +159,7 @@ tail_at deep ts ls =
     (past CloseSquare ls >>= λ behind. Some (list (terms_of ts), behind))
     (λ inner. ended_by CloseSquare (part_at deep inner) >>= λ t. Some (list_with (terms_of ts) t.0, t.1))
 
--- list, behind the bracket
+-- list, after the bracket
 abbrev pub items_at : Reader TermData → Reader TermData
 items_at deep ls =
     choose (past CloseSquare ls)
@@ -212,7 +212,7 @@ then_at part goal c ls =
     goals_at part ls >>= λ g.
     choose (past Semicolon g.1) (Some (once c g.0, g.1)) (λ behind. goal behind >>= λ e. Some (if_else c g.0 e.0, e.1))
 
--- one alternative, and whether a ";" before others stood behind it
+-- one alternative, and whether a ";" before others stood after it
 abbrev pub alternative_at : Reader GoalData → Reader GoalData → Reader (GoalData × Bool)
 alternative_at part goal ls =
     goals_at part ls >>= λ g.

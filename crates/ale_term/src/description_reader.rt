@@ -16,7 +16,7 @@ use ale_text::{Row, Text};
 use sqlite_items::{Boxed, Items};
 use std::alloc::Global;
 
-// A path before `==`, and what stands behind that.
+/// A path before `==`, and what stands after that.
 fn left_path(alloc: Global, lexemes: &[Lexeme]) -> Result<Option<(Row<Text>, &[Lexeme])>, ReadError>
     ensures { Gives (option_map (λ p. (p.0, p.1.now))) result (Some (ended_by SamePath (path_at lexemes.now))) }
 {
@@ -30,7 +30,7 @@ fn left_path(alloc: Global, lexemes: &[Lexeme]) -> Result<Option<(Row<Text>, &[L
     }
 }
 
-// A description of one part that is no equation of paths.
+/// A description of one part that is no equation of paths.
 #[cycle(descriptions)]
 pub(crate) fn simple<'a>(
     alloc: Global,
@@ -48,7 +48,7 @@ pub(crate) fn simple<'a>(
     unnamed(alloc, lexemes, levels - 1)
 }
 
-// What doesn't begin with an atom.
+/// What doesn't begin with an atom.
 #[cycle(descriptions)]
 #[tactic(auto, using(crate::proofs::Terms::term_rules))]
 fn unnamed<'a>(
@@ -64,7 +64,7 @@ fn unnamed<'a>(
     signed(alloc, lexemes, levels)
 }
 
-// What begins with the atom, which stands before the lexemes.
+/// What begins with the atom, which stands before the lexemes.
 #[cycle(descriptions)]
 #[tactic(auto, using(crate::proofs::Terms::term_rules))]
 fn named<'a>(
@@ -84,7 +84,7 @@ fn named<'a>(
     }
 }
 
-// What begins with a symbol.
+/// What begins with a symbol.
 #[cycle(descriptions)]
 #[tactic(auto, using(crate::proofs::Terms::term_rules))]
 fn signed<'a>(
@@ -112,7 +112,7 @@ fn signed<'a>(
     )
 }
 
-// A name, with arguments in round brackets where it has any.
+/// A name, with arguments in round brackets where it has any.
 #[cycle(descriptions)]
 pub(crate) fn call_in<'a>(
     alloc: Global,
@@ -126,7 +126,7 @@ pub(crate) fn call_in<'a>(
     Ok(((name.copy(alloc)?, found), rest))
 }
 
-// The arguments in round brackets, or none.
+/// The arguments in round brackets, or none.
 #[cycle(descriptions)]
 fn arguments<'a>(
     alloc: Global,
@@ -143,7 +143,7 @@ fn arguments<'a>(
     Ok((found, behind))
 }
 
-// What stands in round brackets, of which the first stands before the lexemes.
+/// What stands in round brackets, of which the first stands before the lexemes.
 #[cycle(descriptions)]
 fn group<'a>(
     alloc: Global,
@@ -157,7 +157,7 @@ fn group<'a>(
     Ok((term, behind))
 }
 
-// A list, of which the first bracket stands before the lexemes.
+/// A list, of which the first bracket stands before the lexemes.
 #[cycle(descriptions)]
 #[tactic(auto, using(crate::proofs::Terms::term_rules))]
 fn items<'a>(
@@ -174,7 +174,7 @@ fn items<'a>(
     tail(alloc, found, rest, levels)
 }
 
-// The list of these items, with the rest that stands behind a `|` where there is one.
+/// The list of these items, with the rest that stands after a `|` where there is one.
 #[cycle(descriptions)]
 #[tactic(auto, using(crate::proofs::Terms::term_rules))]
 fn tail<'a>(
@@ -194,7 +194,7 @@ fn tail<'a>(
     Ok((Term::List(found, Some(Boxed::new(alloc, others)?)), behind))
 }
 
-// An equation of two paths, or a part without one.
+/// An equation of two paths, or a part without one.
 #[cycle(descriptions)]
 #[tactic(auto, using(crate::proofs::Terms::term_rules))]
 pub(crate) fn part<'a>(
@@ -211,7 +211,7 @@ pub(crate) fn part<'a>(
     Ok((Term::Meet(left, right), rest))
 }
 
-// The further parts, each behind a `,`.
+/// The further parts, each after a `,`.
 #[cycle(descriptions)]
 fn more_parts<'a>(
     alloc: Global,
@@ -233,7 +233,7 @@ fn more_parts<'a>(
     Ok((found, rest))
 }
 
-// One part or more, with `,` between them.
+/// One part or more, with `,` between them.
 #[cycle(descriptions)]
 fn parts<'a>(
     alloc: Global,
@@ -247,7 +247,7 @@ fn parts<'a>(
     Ok((Items::from_vec(joined(alloc, first, others)?), rest))
 }
 
-// One part, or the conjunction of several.
+/// One part, or the conjunction of several.
 #[cycle(descriptions)]
 fn conjunction<'a>(
     alloc: Global,
@@ -261,7 +261,7 @@ fn conjunction<'a>(
     Ok((all_of(alloc, first, others)?, rest))
 }
 
-// The further conjunctions, each behind a `;`.
+/// The further conjunctions, each after a `;`.
 #[cycle(descriptions)]
 fn more_disjuncts<'a>(
     alloc: Global,
@@ -283,7 +283,7 @@ fn more_disjuncts<'a>(
     Ok((found, rest))
 }
 
-// One conjunction, or the disjunction of several.
+/// One conjunction, or the disjunction of several.
 #[cycle(descriptions)]
 pub(crate) fn disjunction<'a>(
     alloc: Global,

@@ -1,10 +1,11 @@
+//! Why nothing is read.
 use std::alloc::{AllocError, AllocFailed};
 use thiserror::Error;
 
 /// Why lexemes were not read.
 #[derive(Debug, Drop, Error)]
 pub enum ReadError {
-    /// Nothing of the form stands at the front.
+    /// Nothing of the form stands at the start.
     #[error("NotTheForm")]
     NotTheForm,
     /// Memory ran out.

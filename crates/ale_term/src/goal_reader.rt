@@ -18,15 +18,15 @@ use crate::term::Term;
 use sqlite_items::Boxed;
 use std::alloc::Global;
 
-// Whether the lexemes begin with `=`.
+/// Whether the lexemes begin with `=`.
 fn begins_with_equals(lexemes: &[Lexeme]) -> bool
     ensures { result ≡ is_some (past Equals lexemes.now) }
 {
     past(lexemes, Symbol::Equals).is_some()
 }
 
-// Whether a description before `=` may stand at the front. What begins with a bracket has the `=` behind it; to look
-// for that first keeps the time linear where groups of goals nest.
+/// Whether a description before `=` may stand at the start. What begins with a bracket has the `=` after it; to look
+/// for that first keeps the time linear where groups of goals nest.
 fn may_be_side(lexemes: &[Lexeme]) -> bool
     ensures { result ≡ false → (n : ℕ) → ended_by Equals (simple_of n lexemes.now) ≡ None }
 {
@@ -36,7 +36,7 @@ fn may_be_side(lexemes: &[Lexeme]) -> bool
     }
 }
 
-// A description before `=`, and what stands behind that.
+/// A description before `=`, and what stands after that.
 fn left_side(
     alloc: Global,
     lexemes: &[Lexeme],
@@ -57,7 +57,7 @@ fn left_side(
     }
 }
 
-// The lexemes behind the goal `true`, which has no arguments.
+/// The lexemes after the goal `true`, which has no arguments.
 #[tactic(auto, using(crate::proofs::Words::word_rules))]
 fn past_true(lexemes: &[Lexeme]) -> Option<&[Lexeme]>
     ensures { option_copied result ≡ true_at lexemes.now }
@@ -69,7 +69,7 @@ fn past_true(lexemes: &[Lexeme]) -> Option<&[Lexeme]>
     }
 }
 
-// The goal `true`, or a predicate with its arguments.
+/// The goal `true`, or a predicate with its arguments.
 #[tactic(auto, using(crate::proofs::Terms::goal_rules))]
 fn predicate(
     alloc: Global,
@@ -85,7 +85,7 @@ fn predicate(
     Ok((GoalTerm::Call(name, arguments), rest))
 }
 
-// Alternatives with `;` between them.
+/// Alternatives with `;` between them.
 #[cycle(goals)]
 pub(crate) fn goal_in<'a>(
     alloc: Global,
@@ -101,7 +101,7 @@ pub(crate) fn goal_in<'a>(
     Ok((either_of(found), rest))
 }
 
-// A goal without `,`, `->` and `;` outside of brackets.
+/// A goal without `,`, `->` and `;` outside of brackets.
 #[cycle(goals)]
 pub(crate) fn goal_part<'a>(
     alloc: Global,
@@ -116,7 +116,7 @@ pub(crate) fn goal_part<'a>(
     part_within(alloc, lexemes, levels - 1)
 }
 
-// A goal without `,`, `->` and `;` outside of brackets, in which so many levels nest deeper.
+/// A goal without `,`, `->` and `;` outside of brackets, in which so many levels nest deeper.
 #[cycle(goals)]
 #[tactic(auto, using(crate::proofs::Terms::goal_rules))]
 fn part_within<'a>(
@@ -133,7 +133,7 @@ fn part_within<'a>(
     Ok((GoalTerm::Equal(left, right), rest))
 }
 
-// Such a goal that is no equation.
+/// Such a goal that is no equation.
 #[cycle(goals)]
 #[tactic(auto, using(crate::proofs::Terms::goal_rules))]
 fn other_goal<'a>(
@@ -158,7 +158,7 @@ fn other_goal<'a>(
     Ok((goal, behind))
 }
 
-// The further goals of a conjunction, each behind a `,`.
+/// The further goals of a conjunction, each after a `,`.
 #[cycle(goals)]
 fn more_goals<'a>(
     alloc: Global,
@@ -180,7 +180,7 @@ fn more_goals<'a>(
     Ok((found, rest))
 }
 
-// One goal, or the conjunction of several.
+/// One goal, or the conjunction of several.
 #[cycle(goals)]
 fn goals<'a>(
     alloc: Global,
@@ -194,7 +194,7 @@ fn goals<'a>(
     Ok((each_of(alloc, first, others)?, rest))
 }
 
-// The second goal where the first is proved.
+/// The second goal where the first is proved.
 #[tactic(auto, using(crate::proofs::Terms::goal_rules))]
 fn once(alloc: Global, condition: GoalTerm, goal: GoalTerm) -> Result<GoalTerm, ReadError>
     ensures { Gives goal_data result (Some (once (goal_data condition) (goal_data goal))) }
@@ -203,7 +203,7 @@ fn once(alloc: Global, condition: GoalTerm, goal: GoalTerm) -> Result<GoalTerm, 
     Ok(GoalTerm::Once(condition, Boxed::new(alloc, goal)?))
 }
 
-// The second goal where the first is proved, else the third.
+/// The second goal where the first is proved, else the third.
 #[tactic(auto, using(crate::proofs::Terms::goal_rules))]
 fn if_else(
     alloc: Global,
@@ -218,7 +218,7 @@ fn if_else(
     Ok(GoalTerm::IfElse(condition, goal, Boxed::new(alloc, other)?))
 }
 
-// What holds where the condition does, which stands with `->` before the lexemes; all behind a `;` is the else.
+/// What holds where the condition does, which stands with `->` before the lexemes; all after a `;` is the else.
 #[cycle(goals)]
 fn conditional<'a>(
     alloc: Global,
@@ -236,7 +236,7 @@ fn conditional<'a>(
     Ok((if_else(alloc, condition, goal, other)?, rest))
 }
 
-// One alternative, and whether a `;` before others stood behind it.
+/// One alternative, and whether a `;` before others stood after it.
 #[cycle(goals)]
 fn alternative<'a>(
     alloc: Global,
@@ -256,7 +256,7 @@ fn alternative<'a>(
     }
 }
 
-// The alternatives in order.
+/// The alternatives in order.
 #[cycle(goals)]
 fn alternatives<'a>(
     alloc: Global,

@@ -1,3 +1,4 @@
+//! Goals as they are written.
 use crate::term::Term;
 use ale_text::Text;
 use sqlite_items::{Boxed, Items};

@@ -1,3 +1,4 @@
+//! Lexemes.
 use crate::symbol::Symbol;
 use ale_text::Text;
 

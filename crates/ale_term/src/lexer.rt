@@ -15,7 +15,7 @@ use ale_text::Text;
 use ale_token::{Kind, Token, name};
 use std::alloc::{AllocError, Global};
 
-// Whether the text is this word of ASCII.
+/// Whether the text is this word of ASCII.
 fn is(text: &str, word: &str) -> bool
     requires { chars word.now ≡ word.now }
     ensures { result ≡ bytes_eq (chars text.now) word.now }
@@ -23,7 +23,7 @@ fn is(text: &str, word: &str) -> bool
     text == word
 }
 
-// The symbol of one character that the text is.
+/// The symbol of one character that the text is.
 #[tactic(auto, using(crate::proofs::Words::symbol_rules))]
 fn short_symbol(text: &str) -> Option<Symbol>
     ensures { result ≡ short_symbol (chars text.now) }
@@ -70,7 +70,7 @@ fn short_symbol(text: &str) -> Option<Symbol>
     None
 }
 
-// The symbol that the text is.
+/// The symbol that the text is.
 #[tactic(auto, using(crate::proofs::Words::symbol_rules))]
 fn symbol(text: &str) -> Option<Symbol>
     ensures { result ≡ symbol_of (chars text.now) }
@@ -108,7 +108,7 @@ fn symbol(text: &str) -> Option<Symbol>
     short_symbol(text)
 }
 
-// The lexeme of a token that is a symbol.
+/// The lexeme of a token that is a symbol.
 fn sign(text: &str) -> Lexeme
     ensures { result ≡ sign_of (symbol_of (chars text.now)) }
 {
@@ -118,7 +118,7 @@ fn sign(text: &str) -> Lexeme
     }
 }
 
-// The name of a token.
+/// The name of a token.
 fn name_text(alloc: Global, text: &str, token: &Token) -> Result<Text, AllocError>
     requires { Stands text.now token.now }
     ensures { IfOk result (λ name. name ≡ name_of token.now.kind (spelling text.now token.now)) }
@@ -126,7 +126,7 @@ fn name_text(alloc: Global, text: &str, token: &Token) -> Result<Text, AllocErro
     Ok(Text::of(name(alloc, text, token)?))
 }
 
-// The lexeme of a token.
+/// The lexeme of a token.
 fn lexeme(alloc: Global, text: &str, token: &Token) -> Result<Lexeme, AllocError>
     requires { Stands text.now token.now }
     ensures { IfOk result (λ l. l ≡ lexeme text.now token.now) }

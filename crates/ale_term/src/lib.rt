@@ -24,7 +24,7 @@ pub use laws::one_reading;
 pub use lexeme::Lexeme;
 pub use lexer::lexemes;
 pub use list::{add, joined};
-pub use place::{atom_at, past, past_word, variable_at};
+pub use place::{atom_at, is_word, past, past_word, variable_at};
 pub use read::{atoms, call, description, element, goal, goal_element};
 pub use symbol::Symbol;
 pub use term::Term;

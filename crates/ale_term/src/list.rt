@@ -11,7 +11,7 @@ use crate::symbol::Symbol;
 use ale_text::{Row, Text};
 use std::alloc::{AllocError, Global};
 
-/// Puts the item behind the others.
+/// Appends the item to the others.
 pub fn add<T: Drop>(items: &mut Vec<T>, item: T) -> Result<(), AllocError>
     ensures { OnOk result (items.new.items ≡ items.old.items ++ item ∷ []) }
 {
@@ -34,7 +34,7 @@ pub fn joined<T: Drop>(alloc: Global, first: T, others: Vec<T>) -> Result<Vec<T>
     Ok(all)
 }
 
-// An atom.
+/// An atom.
 fn atom(alloc: Global, lexemes: &[Lexeme]) -> Result<(Text, &[Lexeme]), ReadError>
     ensures { Gives (λ p. (p.0, p.1.now)) result (atom_at lexemes.now) }
 {
@@ -42,7 +42,7 @@ fn atom(alloc: Global, lexemes: &[Lexeme]) -> Result<(Text, &[Lexeme]), ReadErro
     Ok((name.copy(alloc)?, behind))
 }
 
-// The further atoms of a list, each behind a `,`.
+/// The further atoms of a list, each after a `,`.
 fn more_atoms<'a>(
     alloc: Global,
     lexemes: &'a [Lexeme],
@@ -62,7 +62,7 @@ fn more_atoms<'a>(
     Ok((found, rest))
 }
 
-// Atoms in square brackets, which may be none, with `,` between them.
+/// Atoms in square brackets, which may be none, with `,` between them.
 pub(crate) fn path(alloc: Global, lexemes: &[Lexeme]) -> Result<(Row<Text>, &[Lexeme]), ReadError>
     ensures { Gives (λ p. (p.0, p.1.now)) result (list_at atom_at lexemes.now) }
 {

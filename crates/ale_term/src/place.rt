@@ -1,4 +1,4 @@
-//! What stands at the front of lexemes.
+//! What stands at the start of lexemes.
 ghost use Rattle.std.specs.Prelude.{◌≡◌, ◌+◌, ◌-◌, ◌^◌, ◌<◌, ◌≤◌, option_map, option_copied, IfSome};
 ghost use Rattle.std.specs.Str.{chars, bytes_eq};
 ghost use Rattle.ale_term.specs.Grammar.{atom_name};
@@ -9,7 +9,7 @@ use crate::lexeme::Lexeme;
 use crate::symbol::Symbol;
 use ale_text::Text;
 
-/// The lexemes behind this symbol, where they begin with it.
+/// The lexemes after this symbol, where they begin with it.
 pub fn past(lexemes: &[Lexeme], symbol: Symbol) -> Option<&[Lexeme]>
     ensures { option_copied result ≡ past symbol lexemes.now }
 {
@@ -19,15 +19,15 @@ pub fn past(lexemes: &[Lexeme], symbol: Symbol) -> Option<&[Lexeme]>
     }
 }
 
-// Whether the name is this word of ASCII.
-fn is_word(name: &Text, word: &str) -> bool
+/// Whether the name is this word of ASCII.
+pub fn is_word(name: &Text, word: &str) -> bool
     requires { chars word.now ≡ word.now }
     ensures { result ≡ bytes_eq name.now word.now }
 {
     name.as_str() == word
 }
 
-/// The lexemes behind this word of the language, where they begin with it. A word is ASCII, and is never quoted.
+/// The lexemes after this word of the language, where they begin with it. A word is ASCII, and is never quoted.
 pub fn past_word<'a>(lexemes: &'a [Lexeme], word: &str) -> Option<&'a [Lexeme]>
     requires { chars word.now ≡ word.now }
     ensures { option_copied result ≡ past_word word.now lexemes.now }
@@ -38,7 +38,7 @@ pub fn past_word<'a>(lexemes: &'a [Lexeme], word: &str) -> Option<&'a [Lexeme]>
     }
 }
 
-// The name that the lexeme is as an atom.
+/// The name that the lexeme is as an atom.
 fn atom_name(lexeme: &Lexeme) -> Option<&Text>
     ensures { option_copied result ≡ atom_name lexeme.now }
 {
@@ -49,7 +49,7 @@ fn atom_name(lexeme: &Lexeme) -> Option<&Text>
     }
 }
 
-/// The name of the atom, plain or quoted, that the lexemes begin with, and those behind it.
+/// The name of the atom, plain or quoted, that the lexemes begin with, and those after it.
 pub fn atom_at(lexemes: &[Lexeme]) -> Option<(&Text, &[Lexeme])>
     ensures { option_map (λ p. (p.0.now, p.1.now)) result ≡ atom_at lexemes.now }
 {
@@ -59,7 +59,7 @@ pub fn atom_at(lexemes: &[Lexeme]) -> Option<(&Text, &[Lexeme])>
     }
 }
 
-/// The name of the variable that the lexemes begin with, and those behind it.
+/// The name of the variable that the lexemes begin with, and those after it.
 pub fn variable_at(lexemes: &[Lexeme]) -> Option<(&Text, &[Lexeme])>
     ensures { option_map (λ p. (p.0.now, p.1.now)) result ≡ variable_at lexemes.now }
 {
@@ -69,21 +69,21 @@ pub fn variable_at(lexemes: &[Lexeme]) -> Option<(&Text, &[Lexeme])>
     }
 }
 
-// Whether the symbol opens a bracket.
+/// Whether the symbol opens a bracket.
 fn opens(symbol: Symbol) -> bool
     ensures { result ≡ opens symbol }
 {
     matches!(symbol, Symbol::OpenRound | Symbol::OpenSquare)
 }
 
-// Whether the symbol closes a bracket.
+/// Whether the symbol closes a bracket.
 fn closes(symbol: Symbol) -> bool
     ensures { result ≡ closes symbol }
 {
     matches!(symbol, Symbol::CloseRound | Symbol::CloseSquare)
 }
 
-// One less, where there is one.
+/// One less, where there is one.
 fn one_less(depth: usize) -> Option<usize>
     ensures value { result ≡ one_less depth }
     ensures within { IfSome result (λ d. d ≤ depth) }
@@ -91,7 +91,7 @@ fn one_less(depth: usize) -> Option<usize>
     if depth == 0 { None } else { Some(depth - 1) }
 }
 
-// How many brackets are open behind the lexeme, where so many were before it; None where it closes the last.
+/// How many brackets are open after the lexeme, where so many were before it; None where it closes the last.
 fn depth_behind(lexeme: &Lexeme, depth: usize) -> Option<usize>
     requires { depth < 2 ^ 64 - 1 }
     ensures value { result ≡ depth_behind lexeme.now depth }
@@ -104,7 +104,7 @@ fn depth_behind(lexeme: &Lexeme, depth: usize) -> Option<usize>
     }
 }
 
-// The lexemes behind the bracket that closes the one open before these.
+/// The lexemes after the bracket that closes the one open before these.
 pub(crate) fn behind_bracket(lexemes: &[Lexeme]) -> &[Lexeme]
     ensures { result.now ≡ behind 0 lexemes.now }
 {

@@ -1,4 +1,4 @@
-//! Descriptions, calls and goals at the front of lexemes.
+//! Descriptions, calls and goals at the start of lexemes.
 ghost use Rattle.std.specs.Prelude.{◌≡◌, ◌++◌, ℕ, List, None, IfOk, map};
 ghost use Rattle.ale_term.specs.declared.symbol.Symbol.TheVariants.{OpenRound};
 ghost use Rattle.ale_term.specs.declared.lexeme.Lexeme.{Lexeme};
@@ -20,12 +20,12 @@ use ale_text::{Row, Text};
 use sqlite_items::Items;
 use std::alloc::Global;
 
-/// The description at the front, as long as possible, with `;` and `,` between its parts; and the lexemes behind it.
+/// The description at the start, as long as possible, with `;` and `,` between its parts; and the lexemes after it.
 /// The calls nest as deep as the lexemes do.
 ///
 /// # Errors
 ///
-/// `NotTheForm` where no description stands at the front, and `NoMemory` where memory runs out.
+/// `NotTheForm` where no description stands at the start, and `NoMemory` where memory runs out.
 pub fn description(alloc: Global, lexemes: &[Lexeme]) -> Result<(Term, &[Lexeme]), ReadError>
     ensures exact { Gives (λ p. (term_data p.0, p.1.now)) result (description_at lexemes.now) }
     ensures found { IfOk result (λ p. Front IsDescription lexemes.now (term_data p.0, p.1.now)) }
@@ -34,12 +34,12 @@ pub fn description(alloc: Global, lexemes: &[Lexeme]) -> Result<(Term, &[Lexeme]
     read_description(alloc, lexemes)
 }
 
-/// The description without `;` and `,` outside of brackets at the front, such as an element of a rule has; and the
-/// lexemes behind it.
+/// The description without `;` and `,` outside of brackets at the start, such as an element of a rule has; and the
+/// lexemes after it.
 ///
 /// # Errors
 ///
-/// `NotTheForm` where none stands at the front, and `NoMemory` where memory runs out.
+/// `NotTheForm` where none stands at the start, and `NoMemory` where memory runs out.
 pub fn element(alloc: Global, lexemes: &[Lexeme]) -> Result<(Term, &[Lexeme]), ReadError>
     ensures exact { Gives (λ p. (term_data p.0, p.1.now)) result (element_at lexemes.now) }
     ensures found { IfOk result (λ p. Front IsPart lexemes.now (term_data p.0, p.1.now)) }
@@ -48,11 +48,11 @@ pub fn element(alloc: Global, lexemes: &[Lexeme]) -> Result<(Term, &[Lexeme]), R
     read_element(alloc, lexemes)
 }
 
-/// The name at the front with its arguments in round brackets, or without any; and the lexemes behind it.
+/// The name at the start with its arguments in round brackets, or without any; and the lexemes after it.
 ///
 /// # Errors
 ///
-/// `NotTheForm` where no call stands at the front, and `NoMemory` where memory runs out.
+/// `NotTheForm` where no call stands at the start, and `NoMemory` where memory runs out.
 pub fn call(
     alloc: Global,
     lexemes: &[Lexeme],
@@ -64,12 +64,12 @@ pub fn call(
     read_call(alloc, lexemes)
 }
 
-/// The goal at the front, as long as possible, with `;`, `->` and `,` between its parts; and the lexemes behind it.
+/// The goal at the start, as long as possible, with `;`, `->` and `,` between its parts; and the lexemes after it.
 /// The calls nest as deep as the lexemes do.
 ///
 /// # Errors
 ///
-/// `NotTheForm` where no goal stands at the front, and `NoMemory` where memory runs out.
+/// `NotTheForm` where no goal stands at the start, and `NoMemory` where memory runs out.
 pub fn goal(alloc: Global, lexemes: &[Lexeme]) -> Result<(GoalTerm, &[Lexeme]), ReadError>
     ensures exact { Gives (λ p. (goal_data p.0, p.1.now)) result (goal_at lexemes.now) }
     ensures found { IfOk result (λ p. Front IsGoal lexemes.now (goal_data p.0, p.1.now)) }
@@ -78,12 +78,12 @@ pub fn goal(alloc: Global, lexemes: &[Lexeme]) -> Result<(GoalTerm, &[Lexeme]), 
     read_goal(alloc, lexemes)
 }
 
-/// The goal without `;`, `->` and `,` outside of brackets at the front, such as an element of a rule has; and the
-/// lexemes behind it.
+/// The goal without `;`, `->` and `,` outside of brackets at the start, such as an element of a rule has; and the
+/// lexemes after it.
 ///
 /// # Errors
 ///
-/// `NotTheForm` where none stands at the front, and `NoMemory` where memory runs out.
+/// `NotTheForm` where none stands at the start, and `NoMemory` where memory runs out.
 pub fn goal_element(alloc: Global, lexemes: &[Lexeme]) -> Result<(GoalTerm, &[Lexeme]), ReadError>
     ensures exact { Gives (λ p. (goal_data p.0, p.1.now)) result (goal_element_at lexemes.now) }
     ensures found { IfOk result (λ p. Front IsGoalPart lexemes.now (goal_data p.0, p.1.now)) }
@@ -92,12 +92,12 @@ pub fn goal_element(alloc: Global, lexemes: &[Lexeme]) -> Result<(GoalTerm, &[Le
     read_goal_element(alloc, lexemes)
 }
 
-/// The atoms in square brackets at the front, which may be none, with `,` between them; and the lexemes behind them.
+/// The atoms in square brackets at the start, which may be none, with `,` between them; and the lexemes after them.
 /// A path is such a list of features.
 ///
 /// # Errors
 ///
-/// `NotTheForm` where no such list stands at the front, and `NoMemory` where memory runs out.
+/// `NotTheForm` where no such list stands at the start, and `NoMemory` where memory runs out.
 pub fn atoms(alloc: Global, lexemes: &[Lexeme]) -> Result<(Row<Text>, &[Lexeme]), ReadError>
     ensures exact { Gives (λ p. (p.0, p.1.now)) result (path_at lexemes.now) }
     ensures found { IfOk result (λ p. Front IsPath lexemes.now (p.0, p.1.now)) }
@@ -106,7 +106,7 @@ pub fn atoms(alloc: Global, lexemes: &[Lexeme]) -> Result<(Row<Text>, &[Lexeme])
     path(alloc, lexemes)
 }
 
-// A description; no lexemes nest deeper than they are many.
+/// A description; no lexemes nest deeper than they are many.
 fn read_description(alloc: Global, lexemes: &[Lexeme]) -> Result<(Term, &[Lexeme]), ReadError>
     ensures { Gives (λ p. (term_data p.0, p.1.now)) result (description_at lexemes.now) }
 {

@@ -11,7 +11,7 @@ use crate::term::Term;
 use sqlite_items::Items;
 use std::alloc::Global;
 
-// The conjunction of these descriptions.
+/// The conjunction of these descriptions.
 #[tactic(auto, using(crate::proofs::Terms::term_rules))]
 pub(crate) fn all_of(alloc: Global, first: Term, others: Vec<Term>) -> Result<Term, ReadError>
     ensures { Gives term_data result (Some (all_of (term_data first ∷ map term_data others.items))) }
@@ -22,7 +22,7 @@ pub(crate) fn all_of(alloc: Global, first: Term, others: Vec<Term>) -> Result<Te
     Ok(Term::All(Items::from_vec(joined(alloc, first, others)?)))
 }
 
-// The disjunction of these descriptions.
+/// The disjunction of these descriptions.
 #[tactic(auto, using(crate::proofs::Terms::term_rules))]
 pub(crate) fn any_of(alloc: Global, first: Term, others: Vec<Term>) -> Result<Term, ReadError>
     ensures { Gives term_data result (Some (any_of (term_data first ∷ map term_data others.items))) }
@@ -33,7 +33,7 @@ pub(crate) fn any_of(alloc: Global, first: Term, others: Vec<Term>) -> Result<Te
     Ok(Term::Any(Items::from_vec(joined(alloc, first, others)?)))
 }
 
-// The conjunction of these goals.
+/// The conjunction of these goals.
 #[tactic(auto, using(crate::proofs::Terms::goal_rules))]
 pub(crate) fn each_of(
     alloc: Global,
@@ -48,7 +48,7 @@ pub(crate) fn each_of(
     Ok(GoalTerm::All(Items::from_vec(joined(alloc, first, others)?)))
 }
 
-// The disjunction of these goals.
+/// The disjunction of these goals.
 #[tactic(auto, using(crate::proofs::Terms::goal_rules))]
 pub(crate) fn either_of(goals: Vec<GoalTerm>) -> GoalTerm
     ensures { goal_data result ≡ either_of (map goal_data goals.items) }

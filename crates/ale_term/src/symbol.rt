@@ -1,3 +1,5 @@
+//! Symbols of the language.
+
 /// A symbol of the language.
 #[derive(Clone, Copy, Debug, PartialEq, Eq)]
 pub enum Symbol {
@@ -45,6 +47,6 @@ pub enum Symbol {
     Exclamation,
     /// `/`, between a name and its number of arguments.
     Slash,
-    /// `>`, behind the kind of an element of a rule.
+    /// `>`, after the kind of an element of a rule.
     Greater,
 }

@@ -1,3 +1,4 @@
+//! Descriptions as they are written.
 use ale_text::{Row, Text};
 use sqlite_items::{Boxed, Items};
 

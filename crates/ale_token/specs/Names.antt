@@ -6,14 +6,14 @@ use Rattle.ale_token.specs.declared.token.Kind.TheVariants.{Atom, Quoted, Variab
 use Rattle.ale_token.specs.declared.pieces.Piece.TheVariants.{Word}
 use Rattle.ale_token.specs.Pieces.{begins, piece}
 
--- what the characters behind the quote that opens a name stand for, up to the quote that closes it: two quotes
+-- what the characters after the quote that opens a name stand for, up to the quote that closes it: two quotes
 -- are one, and every other character is itself
 abbrev mutual
   pub unquoted : List ℕ → List ℕ
   unquoted [] = []
   unquoted (c ∷ cs) = if c == code "'" then behind_quote cs else c ∷ unquoted cs
 
-  -- behind a quote, which may be the first of two
+  -- after a quote, which may be the first of two
   pub behind_quote : List ℕ → List ℕ
   behind_quote [] = []
   behind_quote (c ∷ cs) = if c == code "'" then code "'" ∷ unquoted cs else []

@@ -25,7 +25,7 @@ abbrev pub longest : List (List ℕ) → List ℕ → ℕ
 longest [] cs = 0
 longest (s ∷ ss) cs = if begins s cs then max (length s) (longest ss cs) else longest ss cs
 
--- how many characters at the front pass the test
+-- how many characters at the start pass the test
 abbrev pub span : (ℕ → Bool) → List ℕ → ℕ
 span passes [] = 0
 span passes (c ∷ cs) = if passes c then suc (span passes cs) else 0
@@ -70,19 +70,19 @@ abbrev pub up_to : ℕ → List ℕ → Option ℕ
 up_to d [] = None
 up_to d (c ∷ cs) = if c == d then Some 1 else option_map suc (up_to d cs)
 
--- behind the start of a comment, up to the next "*/" and over it: how many characters
+-- after the start of a comment, up to the next "*/" and over it: how many characters
 abbrev pub comment : List ℕ → Option ℕ
 comment [] = None
 comment (c ∷ cs) = if begins (codes "*/") (c ∷ cs) then Some 2 else option_map suc (comment cs)
 
--- behind the quote that opens a name, up to the first quote that no quote follows and over it, where pairs of
+-- after the quote that opens a name, up to the first quote that no quote follows and over it, where pairs of
 -- quotes are read from the left: how many characters
 abbrev mutual
   pub quoted : List ℕ → Option ℕ
   quoted [] = None
   quoted (c ∷ cs) = if c == code "'" then after_quote cs else option_map suc (quoted cs)
 
-  -- behind a quote, which may be the first of a pair
+  -- after a quote, which may be the first of a pair
   pub after_quote : List ℕ → Option ℕ
   after_quote [] = Some 1
   after_quote (c ∷ cs) = if c == code "'" then option_map (λ n. n + 2) (quoted cs) else Some 1
@@ -116,7 +116,7 @@ token_at c cs =
     else if (c == code ".") && ends_here cs then Word End 0
     else mark_at c cs
 
--- what begins at the front of the text; the number counts the characters after the first
+-- what begins at the start of the text; the number counts the characters after the first
 unfoldable pub piece : List ℕ → Piece
 piece [] = Bad
 piece (c ∷ cs) =

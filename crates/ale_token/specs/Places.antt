@@ -18,8 +18,8 @@ pub record Stands (text : List ℕ) (t : Token) : Type 0 where
   pub reads : (n : ℕ) × (piece (chars (drop t.from text)) ≡ Word t.kind n)
       × (spelling text t ≡ take (suc n) (chars (drop t.from text)))
 
--- the first of the tokens begins at the place or behind it, and each other one where the one before it ends, or
--- behind that
+-- the first of the tokens begins at the place or after it, and each other one where the one before it ends, or
+-- after that
 abbrev pub InOrder : ℕ → List Token → Type 0
 InOrder place [] = Unit {0}
 InOrder place (t ∷ ts) = (place ≤ t.from) × InOrder t.to ts

@@ -67,7 +67,7 @@ abbrev pub with_front : {A : Type 0} → List A → Result (List A) TokenError �
 with_front xs (Ok ys) = Ok (xs ++ ys)
 with_front xs (Err e) = Err e
 
--- the tokens where this piece stands at the place, `later` being those of the text behind its first character
+-- the tokens where this piece stands at the place, `later` being those of the text after its first character
 -- and so many more
 abbrev pub begun : Piece → ℕ → List ℕ → (ℕ → Result (List Token) TokenError) → Result (List Token) TokenError
 begun (Gap n) place cs later = later n

@@ -36,7 +36,7 @@ pub fn one_cutting()
     ensures unended { (ts : List Token) (p : ℕ) → Unended ts p ↔ declarations_of ts ≡ Err (NoEnd p) }
 {}
 
-// The declarations of these tokens.
+/// The declarations of these tokens.
 fn cut(alloc: Global, list: &[Token]) -> Result<Vec<(usize, usize)>, TokenError>
     ensures { Gives {A = ℕ × ℕ} (λ v. v.items) result (declarations_of list.now) }
 {
@@ -54,7 +54,7 @@ fn cut(alloc: Global, list: &[Token]) -> Result<Vec<(usize, usize)>, TokenError>
     }
 }
 
-// Whether this ends a declaration.
+/// Whether this ends a declaration.
 fn is_end(token: &Token) -> bool
     ensures { result ≡ is_end token.now.kind }
 {

@@ -17,6 +17,3 @@ pub use cut::{cut_declarations, one_cutting};
 pub use names::{name, quoted_names};
 pub use scan::{one_reading, tokens};
 pub use token::{Kind, Token, TokenError};
-
-#[cfg(test)]
-mod tests;

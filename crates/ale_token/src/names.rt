@@ -27,7 +27,7 @@ pub fn quoted_names()
     ensures means { QuotesMeanTheName }
 {}
 
-// The name between these quotes.
+/// The name between these quotes.
 fn name_in_quotes(alloc: Global, text: &str) -> Result<String, AllocError>
     ensures { IfOk result (λ name. chars (string_bytes name) ≡ unquoted (drop 1 (chars text.now))) }
 {
@@ -38,7 +38,7 @@ fn name_in_quotes(alloc: Global, text: &str) -> Result<String, AllocError>
     }
 }
 
-// The name that these characters stand for, up to the quote that closes it.
+/// The name that these characters stand for, up to the quote that closes it.
 fn unquoted(alloc: Global, inside: &[char]) -> Result<String, AllocError>
     ensures { IfOk result (λ name. chars (string_bytes name) ≡ unquoted inside.now) }
 {

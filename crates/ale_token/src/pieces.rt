@@ -21,7 +21,7 @@ pub enum Piece {
     Bad,
 }
 
-// What begins at the front.
+/// What begins at the start.
 #[tactic(auto, unfolding(crate::specs::Pieces::piece))]
 pub(crate) fn piece_at(chars: &[char]) -> Piece
     ensures value { result ≡ piece chars.now }
@@ -41,7 +41,7 @@ pub(crate) fn piece_at(chars: &[char]) -> Piece
     }
 }
 
-// Whether `/*` stands at the front.
+/// Whether `/*` stands at the start.
 fn opens_comment(chars: &[char]) -> bool
     ensures value { result ≡ begins (codes "/*") chars.now }
     ensures within { IsTrue result → 2 ≤ length chars.now }
@@ -52,7 +52,7 @@ fn opens_comment(chars: &[char]) -> bool
     }
 }
 
-// The comment whose `/*` stands at the front.
+/// The comment whose `/*` stands at the start.
 fn comment_at(chars: &[char]) -> Piece
     requires { 2 ≤ length chars.now }
     ensures value { result ≡ closed (λ n. Gap (n + 1)) (comment (drop 2 chars.now)) }
@@ -64,7 +64,7 @@ fn comment_at(chars: &[char]) -> Piece
     }
 }
 
-// The token that reaches so far, or none.
+/// The token that reaches so far, or none.
 fn closed(kind: Kind, length: Option<usize>) -> Piece
     ensures { result ≡ closed (Word kind) length }
 {
@@ -74,7 +74,7 @@ fn closed(kind: Kind, length: Option<usize>) -> Piece
     }
 }
 
-// Whether a `.` before this ends a declaration.
+/// Whether a `.` before this ends a declaration.
 fn ends_here(chars: &[char]) -> bool
     ensures { result ≡ ends_here chars.now }
 {
@@ -84,7 +84,7 @@ fn ends_here(chars: &[char]) -> bool
     }
 }
 
-// The token that begins with `c`, before `rest`; both together are `chars`.
+/// The token that begins with `c`, before `rest`; both together are `chars`.
 fn token_at(c: char, rest: &[char], chars: &[char]) -> Piece
     requires { chars.now ≡ c ∷ rest.now }
     ensures value { result ≡ token_at c rest.now }
@@ -105,7 +105,7 @@ fn token_at(c: char, rest: &[char], chars: &[char]) -> Piece
     }
 }
 
-// The symbol, or the other token, that begins with `c`, before `rest`; both together are `chars`.
+/// The symbol, or the other token, that begins with `c`, before `rest`; both together are `chars`.
 fn mark_at(c: char, rest: &[char], chars: &[char]) -> Piece
     requires { chars.now ≡ c ∷ rest.now }
     ensures value { result ≡ mark_at c rest.now }

@@ -42,7 +42,7 @@ pub fn one_reading()
     ensures bad { (cs : List ℕ) (p : ℕ) → BadAt 0 cs p ↔ tokens_of cs ≡ Err (BadToken p) }
 {}
 
-// The tokens of a text whose characters are these.
+/// The tokens of a text whose characters are these.
 fn scan(alloc: Global, chars: &[char]) -> Result<Vec<Token>, TokenError>
     requires { byte_length chars.now < 2 ^ 64 }
     ensures { Gives (λ v. v.items) result (tokens_of chars.now) }
@@ -69,7 +69,7 @@ fn scan(alloc: Global, chars: &[char]) -> Result<Vec<Token>, TokenError>
     Ok(read)
 }
 
-// The place behind the first character and `count` more, and what follows there.
+/// The place after the first character and `count` more, and what follows there.
 fn past(place: usize, chars: &[char], count: usize) -> (usize, &[char])
     requires within { count < length chars.now }
     requires fits { place + byte_length chars.now < 2 ^ 64 }
@@ -82,7 +82,7 @@ fn past(place: usize, chars: &[char], count: usize) -> (usize, &[char])
     (place + byte_length(passed), rest)
 }
 
-// How many bytes these characters take.
+/// How many bytes these characters take.
 fn byte_length(chars: &[char]) -> usize
     requires { byte_length chars.now < 2 ^ 64 }
     ensures { result ≡ byte_length chars.now }

@@ -6,7 +6,7 @@ ghost use Rattle.ale_token.specs.Pieces.{begins, span, is_digit, is_in_line, up_
 use crate::character::is_digit;
 use unicode_ident::is_xid_continue;
 
-// How many characters at the front may continue a name.
+/// How many characters at the start may continue a name.
 pub(crate) fn name_length(chars: &[char]) -> usize
     ensures value { result ≡ span is_xid_continue chars.now }
     ensures within { result ≤ length chars.now }
@@ -19,7 +19,7 @@ pub(crate) fn name_length(chars: &[char]) -> usize
     chars.len()
 }
 
-// How many characters at the front are ASCII digits.
+/// How many characters at the start are ASCII digits.
 pub(crate) fn number_length(chars: &[char]) -> usize
     ensures value { result ≡ span is_digit chars.now }
     ensures within { result ≤ length chars.now }
@@ -32,7 +32,7 @@ pub(crate) fn number_length(chars: &[char]) -> usize
     chars.len()
 }
 
-// How many characters stand before the next line feed, or before the end.
+/// How many characters stand before the next line feed, or before the end.
 pub(crate) fn line_length(chars: &[char]) -> usize
     ensures value { result ≡ span is_in_line chars.now }
     ensures within { result ≤ length chars.now }
@@ -45,7 +45,7 @@ pub(crate) fn line_length(chars: &[char]) -> usize
     chars.len()
 }
 
-// How many characters reach to the end of the next double quote.
+/// How many characters reach to the end of the next double quote.
 pub(crate) fn double_quoted_length(chars: &[char]) -> Option<usize>
     ensures value { result ≡ up_to 34 chars.now }
     ensures within { IfSome result (λ n. n ≤ length chars.now) }
@@ -58,7 +58,7 @@ pub(crate) fn double_quoted_length(chars: &[char]) -> Option<usize>
     None
 }
 
-// How many characters reach to the end of the next `*/`.
+/// How many characters reach to the end of the next `*/`.
 pub(crate) fn comment_length(chars: &[char]) -> Option<usize>
     ensures value { result ≡ comment chars.now }
     ensures within { IfSome result (λ n. n ≤ length chars.now) }
@@ -75,7 +75,7 @@ pub(crate) fn comment_length(chars: &[char]) -> Option<usize>
     None
 }
 
-// Whether `*/` stands at the front.
+/// Whether `*/` stands at the start.
 pub(crate) fn closes_comment(chars: &[char]) -> bool
     ensures value { result ≡ begins (codes "*/") chars.now }
     ensures within { IsTrue result → 2 ≤ length chars.now }
@@ -83,7 +83,7 @@ pub(crate) fn closes_comment(chars: &[char]) -> bool
     matches!(chars, ['*', '/', ..])
 }
 
-// Whether a single quote stands at the front.
+/// Whether a single quote stands at the start.
 pub(crate) fn is_doubled(chars: &[char]) -> bool
     ensures value { result ≡ begins (codes "'") chars.now }
     ensures within { IsTrue result → 1 ≤ length chars.now }
@@ -91,7 +91,7 @@ pub(crate) fn is_doubled(chars: &[char]) -> bool
     matches!(chars, ['\'', ..])
 }
 
-// How many characters reach to the end of the quote that closes a name. Two quotes do not close it.
+/// How many characters reach to the end of the quote that closes a name. Two quotes do not close it.
 pub(crate) fn quoted_length(chars: &[char]) -> Option<usize>
     ensures value { result ≡ quoted chars.now }
     ensures within { IfSome result (λ n. n ≤ length chars.now) }

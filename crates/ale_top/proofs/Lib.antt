@@ -1,6 +1,7 @@
 pub mod Endings
 pub mod Joined
-pub mod Limits
+pub mod Inputs
 pub mod Looping
+pub mod Refused
 pub mod Runs
 pub mod Words

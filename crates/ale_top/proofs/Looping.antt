@@ -1,14 +1,16 @@
 -- Loops that write: what was written, before what is left to write.
-use Rattle.std.proofs.Common.{◌≡◌, ℕ, suc, ◌+◌, ◌<◌, Bool, true, false, ◌&&◌, List, [], ◌∷◌, ◌++◌, map, drop, get_or, length, refl, sym, ap, ◌∙◌, subst, append_assoc, add-one}
+use Rattle.std.proofs.Common.{◌≡◌, ℕ, suc, ◌+◌, ◌<◌, Bool, true, false, ◌&&◌, List, [], ◌∷◌, ◌++◌, ◌⊎◌, inl, inr, map, drop, get_or, length, refl, sym, ap, ◌∙◌, subst, append_assoc, add-one}
 use Rattle.ale_declared.specs.Declarations.{Declared}
 use Rattle.ale_hierarchy.specs.Hierarchy.{Hierarchy}
 use Rattle.ale_hierarchy.proofs.LoopLemmas.{drop_item}
 use Rattle.ale_logic.specs.Descriptions.{description, FitsDescription}
 use Rattle.ale_resolve.specs.declared.describing.Described.{Described}
 use Rattle.ale_load.specs.declared.grammar.Passed.{Passed}
-use Rattle.ale_load.specs.Commands.{AllFit}
+use Rattle.ale_load.specs.Commands.{Query, AllFit}
 use Rattle.ale_load.specs.Views.{passed_data, query_data}
+use Rattle.ale_relation.specs.Has.{Has}
 use Rattle.ale_report.specs.Parts.{command_text}
+use Rattle.ale_report.specs.Written.{AreCountable}
 use Rattle.ale_top.specs.Lines.{passed_line, passed_text}
 use Rattle.ale_top.specs.Output.{search_for, commands_text, all_finished}
 
@@ -43,3 +45,13 @@ module _ (d : Declared) (budget : ℕ) (qs : List Described) (i : ℕ) (q : Desc
       go : (a b : Bool) → ((a && b) && all_finished d budget (map query_data (drop (i + 1) qs))) ≡ (a && (b && all_finished d budget (map query_data (drop (i + 1) qs))))
       go true b = refl
       go false b = refl
+
+  -- the answers to the commands so far could be counted
+  pub counted_step : ((p : Query) → Has (map query_data qs) p → Has (map query_data (drop i qs)) p ⊎ AreCountable (search_for d budget p).answers)
+      → AreCountable (search_for d budget (query_data q)).answers
+      → (p : Query) → Has (map query_data qs) p → Has (map query_data (drop (i + 1) qs)) p ⊎ AreCountable (search_for d budget p).answers
+  counted_step before now p has = elim (before p has) [ inl k ↦ go (subst (λ zs. Has (map query_data zs) p) (drop_item qs i q low at) k) | inr small ↦ inr small ]
+    where
+      go : (p ≡ query_data q) ⊎ Has (map query_data (drop (i + 1) qs)) p → Has (map query_data (drop (i + 1) qs)) p ⊎ AreCountable (search_for d budget p).answers
+      go (inl e) = inr (subst (λ (z : Query). AreCountable (search_for d budget z).answers) (sym e) now)
+      go (inr k) = inl k

@@ -1,5 +1,7 @@
+pub mod Exits
 pub mod Jobs
 pub mod Lines
+pub mod Meanings
 pub mod Named
 pub mod Numbers
 pub mod Output

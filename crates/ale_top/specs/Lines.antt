@@ -21,7 +21,7 @@ use Rattle.ale_load.specs.Grammars.{PassedOver}
 abbrev pub name_text : List ℕ → List ℕ
 name_text n = encode_utf8_all (printed_name n)
 
--- names, each behind a space, and the end of the line
+-- names, each after a space, and the end of the line
 abbrev pub names_end : List (List ℕ) → List ℕ
 names_end [] = codes "\n"
 names_end (n ∷ ns) = codes " " ++ name_text n ++ names_end ns
@@ -52,7 +52,7 @@ signature_text (signature.ExtNotMaximal t) = codes "8 ExtNotMaximal" ++ names_en
 signature_text (signature.FillTooLarge t) = codes "9 FillTooLarge" ++ names_end (t ∷ [])
 signature_text signature.NoMemory = []
 
--- why a grammar is refused; want of memory has no line
+-- why a grammar is refused; that memory ran out has no line
 abbrev pub grammar_line : GrammarError → List ℕ
 grammar_line grammar.TooLong = codes "grammar refused: file 1 TooLong\n"
 grammar_line (grammar.NotText p) = codes "grammar refused: file 2 NotText at " ++ decimal p ++ codes "\n"
@@ -67,7 +67,7 @@ unknown_text (name.UnknownType n) = codes " names 1 UnknownType" ++ names_end (n
 unknown_text (name.UnknownFeature n) = codes " names 2 UnknownFeature" ++ names_end (n ∷ [])
 unknown_text name.NoMemory = []
 
--- why commands are refused; want of memory has no line
+-- why commands are refused; that memory ran out has no line
 abbrev pub command_line : CommandError → List ℕ
 command_line command.TooLong = codes "commands refused: 1 TooLong\n"
 command_line (command.NotText p) = codes "commands refused: 2 NotText at " ++ decimal p ++ codes "\n"

@@ -151,7 +151,7 @@ fn push_left_out(out: &mut String, number: usize, word: &Text) -> Result<(), All
     out.push_str("\n")
 }
 
-/// Writes why a grammar is refused; nothing for want of memory.
+/// Writes why a grammar is refused; nothing where memory ran out.
 pub(crate) fn push_grammar_line(
     alloc: Global,
     out: &mut String,
@@ -198,7 +198,7 @@ fn push_name_front(out: &mut String, number: usize) -> Result<(), AllocError>
     write!(out, "commands refused: 6 Name command {number}")
 }
 
-/// Writes why commands are refused; nothing for want of memory.
+/// Writes why commands are refused; nothing where memory ran out.
 pub(crate) fn push_command_line(
     alloc: Global,
     out: &mut String,

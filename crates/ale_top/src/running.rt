@@ -9,7 +9,7 @@ ghost use Rattle.ale_load.specs.Views.{loaded_data, query_data};
 ghost use Rattle.ale_load.specs.Results.{LoadGives, CommandsGive};
 ghost use Rattle.ale_top.specs.Lines.{grammar_line, command_line};
 ghost use Rattle.ale_top.specs.Output.{outcome, after_grammar, after_commands, commands_text, all_finished};
-ghost use Rattle.ale_top.specs.Reports.{report_of, IsInput};
+ghost use Rattle.ale_top.specs.Reports.{report_of, IsInput, AreCounted, AreCountedFor, AreCountedIn};
 ghost use Rattle.ale_top.specs.Runs.{IsReported};
 
 use crate::lines::{push_all_passed, push_command_line, push_grammar_line};
@@ -67,6 +67,7 @@ fn push_commands(
     requires { AllFit (hierarchy sig.now) (map query_data queries.now) }
     ensures text { OnOk result (string_bytes out.new ≡ string_bytes out.old ++ commands_text sig.now budget 1 (map query_data queries.now)) }
     ensures finished { IfOk result (λ b. b ≡ all_finished sig.now budget (map query_data queries.now)) }
+    ensures counted { OnOk result (AreCounted sig.now budget (map query_data queries.now)) }
 {
     let mut finished = true;
     for (index, query) in queries.iter().enumerate() {
@@ -87,6 +88,7 @@ fn answered(
     requires { AllFit (hierarchy loaded.now.signature) (map query_data queries.now) }
     ensures report { IfOk result (λ r. report_of r ≡ after_commands (loaded_data loaded.now) budget (Ok (map query_data queries.now))) }
     ensures kind { IfOk result (λ r. IsReported r.status) }
+    ensures counted { OnOk result (AreCounted loaded.now.signature budget (map query_data queries.now)) }
 {
     let mut text = String::new(alloc);
     text.push_str("ale: inside the fragment\n")?;
@@ -135,6 +137,7 @@ fn report_commands(
     ensures report { (c : List ℕ) → IsInput commands.now c
         → IfOk result (λ r. report_of r ≡ after_commands (loaded_data loaded.now) budget (commands_of loaded.now.signature c)) }
     ensures kind { IfOk result (λ r. IsReported r.status) }
+    ensures counted { (c : List ℕ) → IsInput commands.now c → OnOk result (AreCountedFor loaded.now.signature c budget) }
 {
     match read_input(alloc, commands, &loaded.signature) {
         Ok(queries) => answered(alloc, loaded, queries.as_slice(), budget),
@@ -152,6 +155,7 @@ pub fn report_on(
 ) -> Result<Report, AllocError>
     ensures report { (g c : List ℕ) → IsInput grammar.now g → IsInput commands.now c → IfOk result (λ r. report_of r ≡ outcome g c budget) }
     ensures kind { IfOk result (λ r. IsReported r.status) }
+    ensures counted { (g c : List ℕ) → IsInput grammar.now g → IsInput commands.now c → OnOk result (AreCountedIn g c budget) }
 {
     match load_input(alloc, grammar) {
         Ok(loaded) => report_commands(alloc, &loaded, commands, budget),

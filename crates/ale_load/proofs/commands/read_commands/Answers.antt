@@ -1,19 +1,13 @@
-use Rattle.std.proofs.Common.{Ok, Err, map}
+use Rattle.std.proofs.Common.{map}
 use Rattle.ale_load.specs.Views.{query_data}
-use Rattle.ale_load.proofs.Answering.{reads_found, reads_as, reads_cause, reads_fit}
+use Rattle.ale_load.proofs.Answering.{reads_found, reads_as, reads_fit}
 use Rattle.ale_load.proofs.commands.read_commands.Goals as goal
 
 pub returns-clause-found : goal.returns-clause-found
 returns-clause-found c = reads_found (λ v. map query_data v.items) c.commands_law.ensures.reads c.args.sig.now c.args.bytes.now c.read_in.result c.read_in.ensures
 
 pub returns-clause-only : goal.returns-clause-only
-returns-clause-only c = λ qs are. reads_as (λ v. map query_data v.items) c.commands_law.ensures.reads c.args.sig.now c.args.bytes.now c.read_in.result c.read_in.ensures (Ok qs) are
-
-pub returns-clause-cause : goal.returns-clause-cause
-returns-clause-cause c = reads_cause (λ v. map query_data v.items) c.commands_law.ensures.reads c.args.sig.now c.args.bytes.now c.read_in.result c.read_in.ensures
-
-pub returns-clause-refused : goal.returns-clause-refused
-returns-clause-refused c = λ e are. reads_as (λ v. map query_data v.items) c.commands_law.ensures.reads c.args.sig.now c.args.bytes.now c.read_in.result c.read_in.ensures (Err e) are
+returns-clause-only c = λ answer are. reads_as (λ v. map query_data v.items) c.commands_law.ensures.reads c.args.sig.now c.args.bytes.now c.read_in.result c.read_in.ensures answer are
 
 pub returns-clause-fit : goal.returns-clause-fit
 returns-clause-fit c = reads_fit (λ v. map query_data v.items) c.commands_law.ensures.reads c.args.sig.now c.args.bytes.now c.commands_law.ensures.fit c.read_in.result c.read_in.ensures

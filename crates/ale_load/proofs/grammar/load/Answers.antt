@@ -1,16 +1,9 @@
-use Rattle.std.proofs.Common.{Ok, Err}
 use Rattle.ale_load.specs.Views.{loaded_data}
-use Rattle.ale_load.proofs.Answering.{loads_found, loads_as, loads_cause}
+use Rattle.ale_load.proofs.Answering.{loads_found, loads_as}
 use Rattle.ale_load.proofs.grammar.load.Goals as goal
 
 pub returns-clause-found : goal.returns-clause-found
 returns-clause-found c = loads_found loaded_data c.load_law.ensures.loads c.args.bytes.now c.load_in.result c.load_in.ensures.exact
 
 pub returns-clause-only : goal.returns-clause-only
-returns-clause-only c = λ l is. loads_as loaded_data c.load_law.ensures.loads c.args.bytes.now c.load_in.result c.load_in.ensures.exact (Ok l) is
-
-pub returns-clause-cause : goal.returns-clause-cause
-returns-clause-cause c = loads_cause loaded_data c.load_law.ensures.loads c.args.bytes.now c.load_in.result c.load_in.ensures.exact
-
-pub returns-clause-refused : goal.returns-clause-refused
-returns-clause-refused c = λ e is. loads_as loaded_data c.load_law.ensures.loads c.args.bytes.now c.load_in.result c.load_in.ensures.exact (Err e) is
+returns-clause-only c = λ answer is. loads_as loaded_data c.load_law.ensures.loads c.args.bytes.now c.load_in.result c.load_in.ensures.exact answer is

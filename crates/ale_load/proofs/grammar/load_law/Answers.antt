@@ -1,5 +1,5 @@
 use Rattle.std.proofs.Common.{Ok, refl}
-use Rattle.ale_load.proofs.Laws.{load_is, loaded_lawful, read_in}
+use Rattle.ale_load.proofs.Laws.{load_is, loaded_lawful, loaded_distinct, read_in}
 use Rattle.ale_load.proofs.grammar.load_law.Goals as goal
 
 pub returns-clause-loads : goal.returns-clause-loads
@@ -7,3 +7,6 @@ returns-clause-loads c = λ g r. load_is (read_in c.one_declaration.ensures.answ
 
 pub returns-clause-lawful : goal.returns-clause-lawful
 returns-clause-lawful c = λ g l is. loaded_lawful c.signature_law.ensures.lawful c.signature_law.ensures.numbered g (Ok l) l is refl
+
+pub returns-clause-distinct : goal.returns-clause-distinct
+returns-clause-distinct c = λ g l is. loaded_distinct c.numbering_law.ensures.distinct g (Ok l) l is refl

@@ -6,24 +6,23 @@ use Rattle.ale_term.specs.Terms.{term_data}
 use Rattle.ale_logic.specs.Descriptions.{description, FitsDescription}
 use Rattle.ale_resolve.specs.Resolving.{StandsFor, resolved}
 use Rattle.ale_resolve.specs.Results.{Fails}
-use Rattle.ale_resolve.proofs.Meaning.{stands, only, same_parts, no_choice, grows, fits, causes, no_fault}
+use Rattle.ale_resolve.proofs.Meaning.{stands, same_parts, no_choice, grows, fits}
+use Rattle.ale_resolve.proofs.LookedUp.{described_as, refused_as, described_only, refused_only}
 use Rattle.ale_resolve.proofs.describing.describe.Goals as goal
 
-pub returns-in_err-desc-clause-cause : goal.returns-in_err-desc-clause-cause
-returns-in_err-desc-clause-cause c =
-    let p = err_from_is_err_and c.from_residual.result c.from_residual.ensures.1 in
-    let d = c.args.sig.now in
-    let t = term_data c.args.term.now in
-    let e = c.in_err-desc.field-0.0 in
-    rw (p.1, p.2) (causes d [] t e (subst (λ vs. Fails e (resolved d vs t)) c.new-slots.ensures c.in_err-desc.ensures))
+-- why nothing was found
+failed : (c : goal.After-from_residual) → Fails c.in_err-desc.field-0.0 (resolved c.args.sig.now [] (term_data c.args.term.now))
+failed c = subst (λ vs. Fails c.in_err-desc.field-0.0 (resolved c.args.sig.now vs (term_data c.args.term.now))) c.new-slots.ensures c.in_err-desc.ensures
 
-pub returns-in_err-desc-clause-refused : goal.returns-in_err-desc-clause-refused
-returns-in_err-desc-clause-refused c =
+pub returns-in_err-desc-clause-found : goal.returns-in_err-desc-clause-found
+returns-in_err-desc-clause-found c =
     let p = err_from_is_err_and c.from_residual.result c.from_residual.ensures.1 in
-    let d = c.args.sig.now in
-    let t = term_data c.args.term.now in
-    let e = c.in_err-desc.field-0.0 in
-    rw (p.1, p.2) (no_fault d [] t e (subst (λ vs. Fails e (resolved d vs t)) c.new-slots.ensures c.in_err-desc.ensures))
+    rw (p.1, p.2) (refused_as c.args.sig.now (term_data c.args.term.now) c.requires.plain c.in_err-desc.field-0.0 (failed c))
+
+pub returns-in_err-desc-clause-only : goal.returns-in_err-desc-clause-only
+returns-in_err-desc-clause-only c answer is =
+    let p = err_from_is_err_and c.from_residual.result c.from_residual.ensures.1 in
+    rw (p.1, p.2) (refused_only c.args.sig.now (term_data c.args.term.now) c.requires.plain c.in_err-desc.field-0.0 (failed c) answer is)
 
 -- what was found
 is_found : (c : goal.After-as_slice) → resolved c.args.sig.now [] (term_data c.args.term.now) ≡ Ok (description c.in_ok-desc.desc, c.into_names-names.result)
@@ -43,11 +42,12 @@ overflow_cast-result c =
     omega arith
 
 pub returns-clause-found : goal.returns-clause-found
-returns-clause-found c = stands_for c
+returns-clause-found c =
+    described_as c.args.sig.now (term_data c.args.term.now) c.requires.plain (description c.in_ok-desc.desc, c.into_names-names.result) (is_found c)
 
 pub returns-clause-only : goal.returns-clause-only
-returns-clause-only c x us s =
-    only c.args.sig.now [] c.into_names-names.result us (term_data c.args.term.now) (description c.in_ok-desc.desc) x (is_found c) s
+returns-clause-only c answer is =
+    described_only c.args.sig.now (term_data c.args.term.now) c.requires.plain (description c.in_ok-desc.desc, c.into_names-names.result) (is_found c) answer is
 
 pub returns-clause-fits : goal.returns-clause-fits
 returns-clause-fits c =

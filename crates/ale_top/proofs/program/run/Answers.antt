@@ -1,84 +1,75 @@
-use Rattle.std.proofs.Common.{List, ℕ, map, string_bytes, sym, subst}
-use Rattle.ale_top.specs.declared.status.Status.TheVariants as status
-use Rattle.ale_top.specs.Named.{job_named}
-use Rattle.ale_top.specs.Output.{outcome}
-use Rattle.ale_top.specs.Runs.{Wrote, Told, Finishes, Unfinishes, IsAcceptedGrammar, AreAccepted, default_budget}
-use Rattle.ale_top.proofs.Endings.{given, one, made}
-use Rattle.ale_top.proofs.Runs.{told_grammar, told_commands, exactly, Defined, defined, asked_law}
+use Rattle.std.proofs.Common.{◌≡◌, List, ℕ, Some, map, string_bytes}
+use Rattle.ale_top.specs.Jobs.{Job, job_of}
+use Rattle.ale_top.specs.Runs.{Stated, Ran, RanOnSome, default_budget}
+use Rattle.ale_top.proofs.Endings.{one, made}
+use Rattle.ale_top.proofs.Runs.{Laws, ran_on_some, ran_stated, grammar_stated, sound, complete, subsumed, enough, budgeted}
 use Rattle.ale_top.proofs.program.run.Given.{Over}
 use Rattle.ale_top.proofs.program.run.Goals as goal
 
--- what the run of the job wrote, by the defined output
-wrote_at : (g : Over) (c : goal.After-run_job g) (g' c' : List ℕ) → Told (map string_bytes c.args.words.now) (g.F.Files.content c.args.files.now) g' c' → Wrote (outcome g' c' default_budget) c.run_job.result (g.W.Sink.written c.args.out.now) (g.W.Sink.written c.run_job.new.out)
-wrote_at g c g' c' told =
-    let words = map string_bytes c.args.words.now in
-    let content = g.F.Files.content c.args.files.now in
-    let job = job_named c.in-Some.names in
-    subst (λ b. Wrote (outcome g' c' b) c.run_job.result (g.W.Sink.written c.args.out.now) (g.W.Sink.written c.run_job.new.out)) c.default_budget.ensures
-    (c.run_job.ensures.wrote g' c' (told_grammar words content g' c' job c.in-Some.ensures told) (told_commands words content g' c' job c.in-Some.ensures told))
+laws : (g : Over) → goal.After-run_words g → Laws
+laws g c = record {
+  loads = c.load_law.ensures.loads;
+  lawful = c.load_law.ensures.lawful;
+  distinct = c.load_law.ensures.distinct;
+  reads = c.commands_law.ensures.reads;
+  fit = c.commands_law.ensures.fit;
+  searches = c.search_law.ensures;
+  written = c.written_law.ensures.satisfiers;
+  texts = c.written_law.ensures.texts;
+}
 
-defined_at : (g : Over) (c : goal.After-run_job g) (g' c' : List ℕ) → Told (map string_bytes c.args.words.now) (g.F.Files.content c.args.files.now) g' c' → Defined g' c' default_budget c.run_job.result (g.W.Sink.written c.args.out.now) (g.W.Sink.written c.run_job.new.out)
-defined_at g c g' c' told =
-    defined c.load_law.ensures.loads c.commands_law.ensures.reads g' c' default_budget c.run_job.result (g.W.Sink.written c.args.out.now) (g.W.Sink.written c.run_job.new.out) (wrote_at g c g' c' told)
+ran_at : (g : Over) (c : goal.After-run_words g) (job : Job) → job_of (map string_bytes c.args.words.now) ≡ Some job
+    → RanOnSome (g.F.Files.content c.args.files.now) job default_budget c.run_words.result (g.W.Sink.written c.args.out.now) (g.W.Sink.written c.run_words.new.out)
+ran_at g c job is =
+    ran_on_some (laws g c) (g.F.Files.content c.args.files.now) job default_budget c.run_words.result (g.W.Sink.written c.args.out.now) (g.W.Sink.written c.run_words.new.out)
+    (c.run_words.ensures.job job is)
 
-pub run_job-requires-clause-grammar : goal.run_job-requires-clause-grammar
-run_job-requires-clause-grammar g c = (c.requires (job_named c.in-Some.names) (sym c.in-Some.ensures)).0
+stated_at : (g : Over) (c : goal.After-run_words g) (x y : List ℕ) → Stated (map string_bytes c.args.words.now) (g.F.Files.content c.args.files.now) x y
+    → Ran x y default_budget c.run_words.result (g.W.Sink.written c.args.out.now) (g.W.Sink.written c.run_words.new.out)
+stated_at g c x y stated =
+    ran_stated (g.F.Files.content c.args.files.now) stated.job default_budget c.run_words.result (g.W.Sink.written c.args.out.now) (g.W.Sink.written c.run_words.new.out)
+    (ran_at g c stated.job stated.words_are) x y stated.grammar stated.commands
 
-pub run_job-requires-clause-commands : goal.run_job-requires-clause-commands
-run_job-requires-clause-commands g c = (c.requires (job_named c.in-Some.names) (sym c.in-Some.ensures)).1
+pub returns-clause-job : goal.returns-clause-job
+returns-clause-job g c = λ job is. ran_at g c job is
 
-pub returns-in-None-clause-some : goal.returns-in-None-clause-some
-returns-in-None-clause-some g c = λ g' c'. let m = made c.load_law.ensures.loads c.commands_law.ensures.reads g' c' default_budget in (m.status, (m.text, m.output))
+pub returns-clause-output : goal.returns-clause-output
+returns-clause-output g c = λ x y stated. (stated_at g c x y stated).output
 
-pub returns-in-Some-clause-some : goal.returns-in-Some-clause-some
-returns-in-Some-clause-some g c = λ g' c'. let m = made c.load_law.ensures.loads c.commands_law.ensures.reads g' c' default_budget in (m.status, (m.text, m.output))
+pub returns-clause-some : goal.returns-clause-some
+returns-clause-some g c = λ x y. let m = made c.load_law.ensures.loads c.commands_law.ensures.reads x y default_budget in (m.status, (m.text, m.output))
 
-pub returns-in-None-clause-one : goal.returns-in-None-clause-one
-returns-in-None-clause-one g c = λ g' c' s t x y. one c.load_law.ensures.loads c.commands_law.ensures.reads g' c' default_budget s t x y
+pub returns-clause-one : goal.returns-clause-one
+returns-clause-one g c = λ x y s t a b. one c.load_law.ensures.loads c.commands_law.ensures.reads x y default_budget s t a b
 
-pub returns-in-Some-clause-one : goal.returns-in-Some-clause-one
-returns-in-Some-clause-one g c = λ g' c' s t x y. one c.load_law.ensures.loads c.commands_law.ensures.reads g' c' default_budget s t x y
+pub returns-clause-grammar : goal.returns-clause-grammar
+returns-clause-grammar g c = λ x stated.
+    grammar_stated (g.F.Files.content c.args.files.now) stated.job default_budget c.run_words.result (g.W.Sink.written c.args.out.now) (g.W.Sink.written c.run_words.new.out)
+    (ran_at g c stated.job stated.words_are) x stated.grammar
 
-pub returns-in-Some-clause-output : goal.returns-in-Some-clause-output
-returns-in-Some-clause-output g c = λ g' c' told s text o.
-    subst (λ z. Wrote z c.run_job.result (g.W.Sink.written c.args.out.now) (g.W.Sink.written c.run_job.new.out)) (given c.load_law.ensures.loads c.commands_law.ensures.reads g' c' default_budget s text o) (wrote_at g c g' c' told)
+pub returns-clause-commands : goal.returns-clause-commands
+returns-clause-commands g c = λ x y stated. (stated_at g c x y stated).commands
 
-pub returns-in-Some-clause-grammar : goal.returns-in-Some-clause-grammar
-returns-in-Some-clause-grammar g c = λ g' c' told.
-    let d = defined_at g c g' c' told in
-    exactly (d.made.status, d.made.text) c.run_job.result status.Grammar (g.W.Sink.written c.args.out.now) (g.W.Sink.written c.run_job.new.out) (IsAcceptedGrammar g' → ⊥) tt d.wrote d.causes.grammar
+pub returns-clause-done : goal.returns-clause-done
+returns-clause-done g c = λ x y stated. (stated_at g c x y stated).done
 
-pub returns-in-Some-clause-commands : goal.returns-in-Some-clause-commands
-returns-in-Some-clause-commands g c = λ g' c' told.
-    let d = defined_at g c g' c' told in
-    exactly (d.made.status, d.made.text) c.run_job.result status.Commands (g.W.Sink.written c.args.out.now) (g.W.Sink.written c.run_job.new.out) (IsAcceptedGrammar g' × (AreAccepted g' c' → ⊥)) tt d.wrote d.causes.commands
+pub returns-clause-unfinished : goal.returns-clause-unfinished
+returns-clause-unfinished g c = λ x y stated. (stated_at g c x y stated).unfinished
 
-pub returns-in-Some-clause-done : goal.returns-in-Some-clause-done
-returns-in-Some-clause-done g c = λ g' c' told.
-    let d = defined_at g c g' c' told in
-    exactly (d.made.status, d.made.text) c.run_job.result status.Done (g.W.Sink.written c.args.out.now) (g.W.Sink.written c.run_job.new.out) (Finishes g' c' default_budget) tt d.wrote d.causes.done
+pub returns-clause-visible : goal.returns-clause-visible
+returns-clause-visible g c = λ x y stated. (stated_at g c x y stated).visible
 
-pub returns-in-Some-clause-unfinished : goal.returns-in-Some-clause-unfinished
-returns-in-Some-clause-unfinished g c = λ g' c' told.
-    let d = defined_at g c g' c' told in
-    exactly (d.made.status, d.made.text) c.run_job.result status.Unfinished (g.W.Sink.written c.args.out.now) (g.W.Sink.written c.run_job.new.out) (Unfinishes g' c' default_budget) tt d.wrote d.causes.unfinished
+pub returns-clause-sound : goal.returns-clause-sound
+returns-clause-sound g c = sound (laws g c) default_budget
 
-pub returns-in-Some-clause-sound : goal.returns-in-Some-clause-sound
-returns-in-Some-clause-sound g c = λ g' c' told l qs asks q has.
-    (asked_law c.search_law.ensures c.load_law.ensures.lawful c.commands_law.ensures.fit g' c' default_budget l qs asks q has).sound
+pub returns-clause-complete : goal.returns-clause-complete
+returns-clause-complete g c = complete (laws g c) default_budget
 
-pub returns-in-Some-clause-complete : goal.returns-in-Some-clause-complete
-returns-in-Some-clause-complete g c = λ g' c' told l qs asks q has.
-    (asked_law c.search_law.ensures c.load_law.ensures.lawful c.commands_law.ensures.fit g' c' default_budget l qs asks q has).complete
+pub returns-clause-subsumed : goal.returns-clause-subsumed
+returns-clause-subsumed g c = subsumed (laws g c) default_budget
 
-pub returns-in-Some-clause-subsumed : goal.returns-in-Some-clause-subsumed
-returns-in-Some-clause-subsumed g c = λ g' c' told l qs asks q has.
-    (asked_law c.search_law.ensures c.load_law.ensures.lawful c.commands_law.ensures.fit g' c' default_budget l qs asks q has).subsumed
+pub returns-clause-enough : goal.returns-clause-enough
+returns-clause-enough g c = enough (laws g c) default_budget
 
-pub returns-in-Some-clause-enough : goal.returns-in-Some-clause-enough
-returns-in-Some-clause-enough g c = λ g' c' told l qs asks q has.
-    (asked_law c.search_law.ensures c.load_law.ensures.lawful c.commands_law.ensures.fit g' c' default_budget l qs asks q has).enough
-
-pub returns-in-Some-clause-budgeted : goal.returns-in-Some-clause-budgeted
-returns-in-Some-clause-budgeted g c = λ g' c' told l qs asks q has.
-    (asked_law c.search_law.ensures c.load_law.ensures.lawful c.commands_law.ensures.fit g' c' default_budget l qs asks q has).budgeted
+pub returns-clause-budgeted : goal.returns-clause-budgeted
+returns-clause-budgeted g c = budgeted (laws g c) default_budget
