@@ -1,1 +1,2 @@
+% A word in the third person singular.
 mgsat (word, agr:(num:sg, per:third)).
