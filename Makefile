@@ -1,7 +1,7 @@
 # `make try` runs a grammar in half a minute, unproved; `make test` runs every example and test, unproved, in minutes;
 # `make prove` proves everything and leaves the program at crates/ale/out/ale.
-GRAMMAR = examples/lists.ale
-COMMANDS = examples/lists.cmd
+GRAMMAR = examples/agreement.ale
+COMMANDS = examples/agreement.cmd
 
 .PHONY: try test prove
 
