@@ -1,4 +1,4 @@
-# `make try` runs a grammar in half a minute, unproved; `make test` runs every example and test, unproved, in minutes;
+# `make try` runs a grammar in a minute or less, unproved; `make test` runs every example and test, unproved, in minutes;
 # `make prove` proves everything and leaves the program at crates/ale/out/ale.
 GRAMMAR = examples/agreement.ale
 COMMANDS = examples/agreement.cmd
