@@ -1,8 +1,17 @@
-# `make run` builds the program (it is proved first) and runs the first example; `make test` is the gate.
-.PHONY: run test
+# `make try` runs a grammar in a minute or less, unproved; `make test` runs every example and test, unproved, in minutes;
+# `make prove` proves everything and leaves the program at crates/ale/out/ale.
+GRAMMAR = examples/agreement.ale
+COMMANDS = examples/agreement.cmd
 
-run:
-	cd crates/ale && rt run -- ../../examples/lists.ale ../../examples/lists.cmd
+.PHONY: try test prove
+
+try:
+	@examples/try "$(GRAMMAR)" "$(COMMANDS)"
 
 test:
-	bash .ci/run
+	@.ci/test
+
+prove:
+	rt ci
+	examples/check
+	@if [ -x examples/sizes ]; then examples/sizes; fi

@@ -1,0 +1,2 @@
+% Not looked at, since the grammar is refused.
+mgsat (noun, modifier).
