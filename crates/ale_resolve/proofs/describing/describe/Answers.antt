@@ -10,19 +10,21 @@ use Rattle.ale_resolve.proofs.Meaning.{stands, same_parts, no_choice, grows, fit
 use Rattle.ale_resolve.proofs.LookedUp.{described_as, refused_as, described_only, refused_only}
 use Rattle.ale_resolve.proofs.describing.describe.Goals as goal
 
--- why nothing was found
-failed : (c : goal.After-from_residual) → Fails c.in_err-desc.field-0.0 (resolved c.args.sig.now [] (term_data c.args.term.now))
-failed c = subst (λ vs. Fails c.in_err-desc.field-0.0 (resolved c.args.sig.now vs (term_data c.args.term.now))) c.new-slots.ensures c.in_err-desc.ensures
-
 pub returns-in_err-desc-clause-found : goal.returns-in_err-desc-clause-found
 returns-in_err-desc-clause-found c =
     let p = err_from_is_err_and c.from_residual.result c.from_residual.ensures.1 in
-    rw (p.1, p.2) (refused_as c.args.sig.now (term_data c.args.term.now) c.requires.plain c.in_err-desc.field-0.0 (failed c))
+    let d = c.args.sig.now in
+    let t = term_data c.args.term.now in
+    let e = c.in_err-desc.field-0.0 in
+    rw (p.1, p.2) (refused_as d t c.requires.plain e (subst (λ vs. Fails e (resolved d vs t)) c.new-slots.ensures c.in_err-desc.ensures))
 
 pub returns-in_err-desc-clause-only : goal.returns-in_err-desc-clause-only
 returns-in_err-desc-clause-only c answer is =
     let p = err_from_is_err_and c.from_residual.result c.from_residual.ensures.1 in
-    rw (p.1, p.2) (refused_only c.args.sig.now (term_data c.args.term.now) c.requires.plain c.in_err-desc.field-0.0 (failed c) answer is)
+    let d = c.args.sig.now in
+    let t = term_data c.args.term.now in
+    let e = c.in_err-desc.field-0.0 in
+    rw (p.1, p.2) (refused_only d t c.requires.plain e (subst (λ vs. Fails e (resolved d vs t)) c.new-slots.ensures c.in_err-desc.ensures) answer is)
 
 -- what was found
 is_found : (c : goal.After-as_slice) → resolved c.args.sig.now [] (term_data c.args.term.now) ≡ Ok (description c.in_ok-desc.desc, c.into_names-names.result)
