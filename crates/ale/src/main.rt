@@ -3,9 +3,8 @@
 
 use ale_base::{RealFiles, RealSink};
 use ale_top::exit_number;
-use std::env;
-use std::io;
 use std::process::ExitCode;
+use std::{env, io};
 
 /// The arguments of the process, the program's name first.
 fn arguments(rt: &HostRuntime) -> io::Result<Vec<String>> {

@@ -191,9 +191,11 @@ module _ (s t : Structure) (to : ℕ → ℕ) (takes : Takes s t to) where
       (lined (map to met) (stop_to x) (Again (to n)) (map stop_to xs) (map line_to ls) (another (to n) (ap (option_map to) e) (among_to met a n v ∙ h) listed) r.0, (v, r.1))
   line_step met x _ xs ls (once n e h low) ih a b =
       let v = b x (inl refl) n e in
-      let r = ih (λ m k. elim k [ inl same ↦ subst (Visible s) (sym same) v | inr there ↦ a m there ]) (below_seen x.place n xs v (λ y k. b y (inr k))) in
-      (lined (map to met) (stop_to x) (First (to n)) (map stop_to xs) (map line_to ls) (once (to n) (ap (option_map to) e) (among_to met a n v ∙ h) (takes.into n v))
-      (subst (λ (z : List Stop). Walks t (to n ∷ map to met) z (map line_to ls)) (sym (following_to x.place n xs v)) r.0), (v, r.1))
+      let r = ih (λ m k. elim k [ inl same ↦ subst (Visible s) (sym same) v | inr there ↦ a m there ]) (below_seen x.place n xs v (λ y k. b y (inr k))) in (
+        lined (map to met) (stop_to x) (First (to n)) (map stop_to xs) (map line_to ls) (once (to n) (ap (option_map to) e) (among_to met a n v ∙ h) (takes.into n v))
+            (subst (λ (z : List Stop). Walks t (to n ∷ map to met) z (map line_to ls)) (sym (following_to x.place n xs v)) r.0),
+        (v, r.1),
+      )
 
   walk_to : (met : List ℕ) (xs : List Stop) (ls : List Line) → Walks s met xs ls → AreSeen met → StopsSeen xs → Both met xs ls
   walk_to _ _ _ (ended met) a b = (ended (map to met), tt)
@@ -238,7 +240,7 @@ module _ (s t : Structure) (to : ℕ → ℕ) (takes : Takes s t to) where
       (let a = ltb_to p.0 q.0 v.0 u.0 in let b = eqb_to p.0 q.0 v.0 u.0 in let c = ltb_to p.1 q.1 v.1 u.1 in λ i. a i || (b i && c i)) in
       let rest = put_to p qs v (λ r h. seen r (inr h)) in
       let tests : put (pair_to p) (map pair_to (q ∷ qs))
-          ≡ (if is_same p q then pair_to q ∷ map pair_to qs else if is_before p q then pair_to p ∷ pair_to q ∷ map pair_to qs else pair_to q ∷ map pair_to (put p qs)) =
+      ≡ (if is_same p q then pair_to q ∷ map pair_to qs else if is_before p q then pair_to p ∷ pair_to q ∷ map pair_to qs else pair_to q ∷ map pair_to (put p qs)) =
       λ i. if same i then pair_to q ∷ map pair_to qs else if before i then pair_to p ∷ pair_to q ∷ map pair_to qs else pair_to q ∷ rest i in
       tests ∙ go (is_same p q) (is_before p q)
     where

@@ -88,17 +88,20 @@ module _ (runs : RunLaws) (h : Hierarchy) (law : IsLawful h) (slots : ℕ) (d : 
         items = (sol.holds, refl);
       } in
       let r = found_at runs h empty_program (accepted_none h law) (start slots d) (description_starts h slots d fit) (tt, tt) budget fin s sol.model sense sat in
-      let next = (came runs h empty_program (accepted_none h law) (start slots d) (description_starts h slots d fit) (tt, tt) budget r.answer r.has).is.next in
-      (seen_answer r.answer, is_told (found_from h empty_program budget (start slots d)).answers r.answer r.has, record {
-        subsumes = record { map = r.map; is = r.is; root_to = r.lands 0 (omega arith) ∙ r.agrees.node 0 (omega arith) };
-        is_bound = λ v a b. sym (ap (λ (f : ℕ → ℕ). f v) (r.agrees.var 0 (omega arith))) ∙ r.is_bound 0 v a b;
-      })
+      let next = (came runs h empty_program (accepted_none h law) (start slots d) (description_starts h slots d fit) (tt, tt) budget r.answer r.has).is.next in (
+        seen_answer r.answer,
+        is_told (found_from h empty_program budget (start slots d)).answers r.answer r.has,
+        record {
+          subsumes = record { map = r.map; is = r.is; root_to = r.lands 0 (omega arith) ∙ r.agrees.node 0 (omega arith) };
+          is_bound = λ v a b. sym (ap (λ (f : ℕ → ℕ). f v) (r.agrees.var 0 (omega arith))) ∙ r.is_bound 0 v a b;
+        },
+      )
     where
       sense : Sense
       sense = record { node = λ k. n; var = λ e v. assign v; words = λ g. [] }
 
   one_subsumed : (a : Answer) → Has (found_from h empty_program budget (start slots d)).answers a → (s : Structure) (n : ℕ) → IsModel h empty_program s → (by : SubsumesAt h a.closed.graph (node_of a.closed 0) s n) →
-    (assign : ℕ → ℕ) × IsSolution h empty_program d s n assign × IsBound (env_at a.state.envs 0) assign (λ k. by.map (node_of a.closed k))
+      (assign : ℕ → ℕ) × IsSolution h empty_program d s n assign × IsBound (env_at a.state.envs 0) assign (λ k. by.map (node_of a.closed k))
   one_subsumed a has s n model by =
       let k = carried a has s by.map model.structure by.is in
       (k.assign, record { model = model; node = subst (λ z. z < count s) by.root_to k.inside; nodes = k.nodes; holds = subst (HoldsAt h s k.assign d) by.root_to k.holds }, k.is_bound)
@@ -106,7 +109,7 @@ module _ (runs : RunLaws) (h : Hierarchy) (law : IsLawful h) (slots : ℕ) (d : 
   -- of what is told of an answer
   abbrev Subsumed : told.Answer → Type 0
   Subsumed c = (s : Structure) (n : ℕ) → IsModel h empty_program s → (by : SubsumesAt h c.closed.graph (node_of c.closed 0) s n) →
-    (assign : ℕ → ℕ) × IsSolution h empty_program d s n assign × IsBound c.env assign (λ k. by.map (node_of c.closed k))
+      (assign : ℕ → ℕ) × IsSolution h empty_program d s n assign × IsBound c.env assign (λ k. by.map (node_of c.closed k))
 
   subsumed : SubsumedAreSolutions h empty_program d (found h budget slots d).answers
   subsumed c has =

@@ -37,7 +37,7 @@ pub first_of : (h : Hierarchy) (budget : ℕ) (st : State) → IsState h st → 
 first_of h budget st is = record {
   within = omega arith;
   same = ap (λ (b : ℕ). so_far [] 0 (rest_found h b (st ∷ []))) (all_left budget)
-    ∙ ap (λ (n : ℕ). let r : Outcome Answer = record { answers = (rest_found h budget (st ∷ [])).answers; visits = n; finished = (rest_found h budget (st ∷ [])).finished } in r) (none_before (rest_found h budget (st ∷ [])).visits);
+      ∙ ap (λ (n : ℕ). let r : Outcome Answer = record { answers = (rest_found h budget (st ∷ [])).answers; visits = n; finished = (rest_found h budget (st ∷ [])).finished } in r) (none_before (rest_found h budget (st ∷ [])).visits);
   states = λ x p. elim p [ inl e ↦ subst (IsState h) (sym e) is | inr q ↦ absurd q ];
 }
 

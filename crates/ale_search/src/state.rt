@@ -109,7 +109,11 @@ pub fn bound(envs: &[Environment], env: usize, slot: usize) -> Option<usize>
 {
     if env < envs.len() {
         let nodes = envs[env].as_slice();
-        if slot < nodes.len() { nodes[slot] } else { None }
+        if slot < nodes.len() {
+            nodes[slot]
+        } else {
+            None
+        }
     } else {
         None
     }

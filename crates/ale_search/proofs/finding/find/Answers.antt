@@ -21,7 +21,7 @@ loop-visits-init c =
     ap waiting_of (c.in_ok-push.ensures.items ∙ ap (λ z. z ++ c.in_ok-start.field-0 ∷ []) c.new-waiting.ensures.items) ∙ ap (λ z. z ∷ []) c.in_ok-start.ensures in
     subst (λ z. Searching h c.args.budget (start c.args.slots d ∷ []) z 0 (waiting_of c.push.new.self.items)) (sym c.new-answers.ensures.items)
     (subst (Searching h c.args.budget (start c.args.slots d ∷ []) [] 0) (sym one)
-      (first_of h c.args.budget (start c.args.slots d) (description_starts h c.args.slots d c.requires).is.is))
+    (first_of h c.args.budget (start c.args.slots d) (description_starts h c.args.slots d c.requires).is.is))
 
 pub visit-requires : goal.visit-requires
 visit-requires c =
