@@ -8,7 +8,7 @@ use Rattle.ale_resolve.specs.declared.error.NameError.{NameError}
 use Rattle.ale_resolve.specs.Forms.{is_plain, parts}
 use Rattle.ale_resolve.specs.Mentions.{unknown}
 use Rattle.ale_resolve.specs.Resolving.{resolved}
-use Rattle.ale_resolve.proofs.Meaning.{stands, given, fits, both_of}
+use Rattle.ale_resolve.proofs.Meaning.{stands, given, fits, no_inequation, both_of}
 use Rattle.ale_resolve.proofs.Unknown.{unknown_found, unknown_given}
 use Rattle.ale_command.specs.Commands.{CommandData, mgsat, query, lex, rec, gen, code}
 use Rattle.ale_load.specs.Reading.{first_without}
@@ -83,6 +83,6 @@ pub asked_fit : (d : Declared) (k : ℕ) (cs : List CommandData) (r : Result (Li
 asked_fit d k cs r qs (none_left j) e = let f : [] ≡ qs = cc in subst (AllFit (hierarchy d)) f tt
 asked_fit d k cs r qs (one_more j c rest t x vs us asks s later) e =
     let f : (x, vs) ∷ us ≡ qs = cc in
-    subst (AllFit (hierarchy d)) f (fits d [] vs t x s, asked_fit d (suc j) rest (Ok us) us later refl)
+    subst (AllFit (hierarchy d)) f (record { fits = fits d [] vs t x s; plain = no_inequation d [] vs t x s }, asked_fit d (suc j) rest (Ok us) us later refl)
 asked_fit d k cs r qs (later_unknown j c rest t x vs u asks s later) e = absurd cc
 asked_fit d k cs r qs (one_unknown j c rest t m asks first) e = absurd cc

@@ -10,6 +10,7 @@ use Rattle.ale_form.specs.Results.{Answers}
 use Rattle.ale_declared.specs.Declarations.{Declared}
 use Rattle.ale_hierarchy.specs.Hierarchy.{Hierarchy}
 use Rattle.ale_logic.specs.Descriptions.{Description, FitsDescription}
+use Rattle.ale_logic.specs.Inequations.{HasNoInequation}
 use Rattle.ale_resolve.specs.declared.error.NameError.{NameError}
 use Rattle.ale_resolve.specs.declared.error.NameError.TheVariants as name
 use Rattle.ale_resolve.specs.Forms.{is_plain, parts}
@@ -58,10 +59,15 @@ pub data AreAsked (d : Declared) : ℕ → List CommandData → Result (List Que
   one_unknown : (k : ℕ) (c : CommandData) (cs : List CommandData) (t : TermData) (m : Mention) →
       asked c ≡ Some t → IsFirstUnknown d (mentions t) m → AreAsked d k (c ∷ cs) (Err (k, unknown m))
 
--- the descriptions speak of types and features of the hierarchy, and of variables that have a name
+-- the description speaks of types and features of the hierarchy, and of variables that have a name, and has no
+-- inequation
+pub record FitsQuery (h : Hierarchy) (q : Query) : Type 0 where
+  pub fits : FitsDescription h (length q.1) q.0
+  pub plain : HasNoInequation q.0
+
 abbrev pub AllFit : Hierarchy → List Query → Type 0
 AllFit h [] = Unit {0}
-AllFit h (q ∷ qs) = FitsDescription h (length q.1) q.0 × AllFit h qs
+AllFit h (q ∷ qs) = FitsQuery h q × AllFit h qs
 
 -- what a part of a command file is read as; the word is not seen through
 unfoldable pub command_in : List Lexeme → Result CommandData FormError

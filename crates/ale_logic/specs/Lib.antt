@@ -12,6 +12,7 @@ pub mod GoalKids
 pub mod Goals
 pub mod Growing
 pub mod Headed
+pub mod Inequations
 pub mod Lexical
 pub mod LexiconLaws
 pub mod Lexicons

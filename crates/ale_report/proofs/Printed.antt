@@ -8,7 +8,8 @@ use Rattle.ale_graph.specs.Structures.{IsStructure, is_formed, is_node, is_root,
 use Rattle.ale_graph.specs.Closure.{node_of}
 use Rattle.ale_logic.specs.declared.answer.Answer.{Answer}
 use Rattle.ale_logic.specs.Descriptions.{Description}
-use Rattle.ale_logic.specs.Solutions.{IsAnswer}
+use Rattle.ale_search.specs.Solutions.{IsAnswer}
+use Rattle.ale_search.specs.Views.{empty_program}
 use Rattle.ale_report.specs.Parts.{rooted}
 use Rattle.ale_report.specs.Printing.{IsPrinted}
 
@@ -28,9 +29,9 @@ rooted_is_formed c formed low =
     (every (is_root (count c.graph)) (Some (node_of c 0) ∷ [])) formed (below (node_of c 0) (count c.graph) low)
 
 -- roots are no part of what makes a structure total and extensional
-pub printed : (h : Hierarchy) (d : Description) (c : Answer) → IsAnswer h d c → IsPrinted h c
+pub printed : (h : Hierarchy) (d : Description) (c : Answer) → IsAnswer h empty_program d c → IsPrinted h c
 printed h d c is =
-    let s = is.is.structure in
+    let s = is.is.model.structure in
     record {
       structure = record {
         formed = rooted_is_formed c.closed s.formed is.is.node;

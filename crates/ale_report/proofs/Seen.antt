@@ -10,7 +10,8 @@ use Rattle.ale_morphism.specs.Visible.{Visible, value, differs_first, differs_se
 use Rattle.ale_morphism.specs.VisibleLaws.{IsPart}
 use Rattle.ale_morphism.proofs.ReachSteps.{visible_formed}
 use Rattle.ale_morphism.proofs.VisibleLaws.{is_part}
-use Rattle.ale_logic.specs.Descriptions.{Description, Descriptions, of_type, slot, at, all, any, meet, none, more, LeadsTo, HoldsAt, AllHoldAt, SomeHoldsAt}
+use Rattle.ale_logic.specs.Inequations.{HasNoInequation, HaveNoInequation}
+use Rattle.ale_logic.specs.Descriptions.{Description, Descriptions, of_type, slot, at, all, any, differs, path_equation, none, more, LeadsTo, HoldsAt, AllHoldAt, SomeHoldsAt}
 
 module _ (h : Hierarchy) (law : IsLawful h) (s t : Structure) (Seen : ℕ → Type 0) (to : ℕ → ℕ)
     (below : (n f m : ℕ) → Seen n → value_of s n f ≡ Some m → Seen m)
@@ -22,22 +23,23 @@ module _ (h : Hierarchy) (law : IsLawful h) (s t : Structure) (Seen : ℕ → Ty
   path_taken n (f ∷ path) m v l = (to l.0, values n f l.0 v l.1, path_taken l.0 path m (below n f l.0 v l.1) l.2)
 
   mutual
-    pub held : (d : Description) (n : ℕ) → Seen n → HoldsAt h s assign d n → HoldsAt h t new d (to n)
-    held (of_type k) n v r = law.along k (type_of s n) (type_of t (to n)) r (types n v)
-    held (slot x) n v e = agrees x (subst Seen (sym e) v) ∙ ap to e
-    held (at f d) n v r = (to r.0, values n f r.0 v r.1, held d r.0 (below n f r.0 v r.1) r.2)
-    held (all ds) n v r = all_held ds n v r
-    held (any ds) n v r = some_held ds n v r
-    held (meet p q) n v r = (to r.0, path_taken n p r.0 v r.1, path_taken n q r.0 v r.2)
+    pub held : (d : Description) → HasNoInequation d → (n : ℕ) → Seen n → HoldsAt h s assign d n → HoldsAt h t new d (to n)
+    held (of_type k) p n v r = law.along k (type_of s n) (type_of t (to n)) r (types n v)
+    held (slot x) p n v e = agrees x (subst Seen (sym e) v) ∙ ap to e
+    held (at f d) p n v r = (to r.0, values n f r.0 v r.1, held d p r.0 (below n f r.0 v r.1) r.2)
+    held (all ds) p n v r = all_held ds p n v r
+    held (any ds) p n v r = some_held ds p n v r
+    held (differs d) p n v r = absurd p
+    held (path_equation q o) p n v r = (to r.0, path_taken n q r.0 v r.1, path_taken n o r.0 v r.2)
 
-    all_held : (ds : Descriptions) (n : ℕ) → Seen n → AllHoldAt h s assign ds n → AllHoldAt h t new ds (to n)
-    all_held none n v r = tt
-    all_held (more d ds) n v r = (held d n v r.0, all_held ds n v r.1)
+    all_held : (ds : Descriptions) → HaveNoInequation ds → (n : ℕ) → Seen n → AllHoldAt h s assign ds n → AllHoldAt h t new ds (to n)
+    all_held none p n v r = tt
+    all_held (more d ds) p n v r = (held d p.0 n v r.0, all_held ds p.1 n v r.1)
 
-    some_held : (ds : Descriptions) (n : ℕ) → Seen n → SomeHoldsAt h s assign ds n → SomeHoldsAt h t new ds (to n)
-    some_held none n v r = absurd r
-    some_held (more d ds) n v (inl r) = inl (held d n v r)
-    some_held (more d ds) n v (inr r) = inr (some_held ds n v r)
+    some_held : (ds : Descriptions) → HaveNoInequation ds → (n : ℕ) → Seen n → SomeHoldsAt h s assign ds n → SomeHoldsAt h t new ds (to n)
+    some_held none p n v r = absurd r
+    some_held (more d ds) p n v (inl r) = inl (held d p.0 n v r)
+    some_held (more d ds) p n v (inr r) = inr (some_held ds p.1 n v r)
 
 -- the visible part of a total, extensional structure is one
 

@@ -15,9 +15,10 @@ use Rattle.ale_morphism.proofs.ReachSteps.{total}
 use Rattle.ale_morphism.proofs.VisibleLaws.{visible_reached, is_part, kept_to_visible}
 use Rattle.ale_logic.specs.declared.answer.Answer.{Answer}
 use Rattle.ale_logic.specs.Descriptions.{Description, HoldsAt}
-use Rattle.ale_logic.specs.Solutions.{IsSolution, IsAnswer, AnswersAreSolutions, SolutionsAreAnswered, SubsumesSolution, SearchLaws}
-use Rattle.ale_logic.specs.States.{start}
-use Rattle.ale_logic.specs.Visits.{search}
+use Rattle.ale_logic.specs.Inequations.{HasNoInequation}
+use Rattle.ale_search.specs.Solutions.{IsSolution, IsAnswer, AnswersAreSolutions, SolutionsAreAnswered, SubsumesSolution, SearchLaws}
+use Rattle.ale_search.specs.Views.{empty_program}
+use Rattle.ale_search.proofs.Bare.{model_of}
 use Rattle.ale_print.proofs.Telling.{texts_tell}
 use Rattle.ale_report.specs.Parts.{rooted, written}
 use Rattle.ale_report.specs.Printing.{IsPrinted}
@@ -32,7 +33,7 @@ one_root s n m i is e = go i (ap (λ (z : List (Option ℕ)). get_or z i None) (
     go zero e = sym (some_one e)
     go (suc i) e = absurd (none_some e)
 
-module _ (h : Hierarchy) (law : IsLawful h) (d : Description) (c : Answer) (is : IsAnswer h d c) where
+module _ (h : Hierarchy) (law : IsLawful h) (d : Description) (plain : HasNoInequation d) (c : Answer) (is : IsAnswer h empty_program d c) where
   structure : IsStructure h (rooted c.closed)
   structure = (printed h d c is).structure
 
@@ -112,11 +113,11 @@ module _ (h : Hierarchy) (law : IsLawful h) (d : Description) (c : Answer) (is :
       root_is = roots;
       assign = new;
       solves = record {
-        structure = is_s;
+        model = model_of h s is_s (let low = root_low in omega arith);
         node = root_low;
         nodes = new_low;
         holds = subst (λ z. HoldsAt h s new d z) root_to
-            (held h law c.closed.graph s (Visible (rooted c.closed)) to (λ a f b v e. value a f b v e) types values is.assign new new_is d (node_of c.closed 0) seen_root is.is.holds);
+            (held h law c.closed.graph s (Visible (rooted c.closed)) to (λ a f b v e. value a f b v e) types values is.assign new new_is d plain (node_of c.closed 0) seen_root is.is.holds);
       };
     }
 
@@ -130,14 +131,14 @@ module _ (h : Hierarchy) (law : IsLawful h) (d : Description) (c : Answer) (is :
       (record { map = λ k. k; is = identity h (written c) law written_structure.apart })
 
 pub written_laws : SearchLaws → WrittenLaws
-written_laws searches h slots d budget lawful fits =
+written_laws searches h slots d budget lawful fits plain =
     let law = searches h slots d budget lawful fits in
     record {
-      sound = λ c has. written_satisfier h lawful d c (law.sound c has);
+      sound = λ c has. written_satisfier h lawful d plain c (law.sound c has);
       complete = λ finished s sat.
           let r = law.complete finished s sat.root sat.assign sat.solves in
-          (r.0, r.1, written_subsumes h lawful d r.0 (law.sound r.0 r.1) s r.2.subsumes.map sat.root r.2.subsumes.is r.2.subsumes.root_to sat.root_is);
-      subsumed = λ c has s n is_s roots sub. subsumed_satisfier h lawful d c (law.sound c has) s n is_s roots sub;
+          (r.0, r.1, written_subsumes h lawful d plain r.0 (law.sound r.0 r.1) s r.2.subsumes.map sat.root r.2.subsumes.is r.2.subsumes.root_to sat.root_is);
+      subsumed = λ c has s n is_s roots sub. subsumed_satisfier h lawful d plain c (law.sound c has) s n is_s roots sub;
     }
 
 -- there are no more visible nodes than nodes

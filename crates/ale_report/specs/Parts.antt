@@ -3,19 +3,19 @@ use Rattle.std.specs.Prelude.{ℕ, suc, Bool, true, false, Some, List, [], ◌�
 use Rattle.std.specs.Fmt.{decimal}
 use Rattle.ale_declared.specs.Declarations.{Declared}
 use Rattle.ale_hierarchy.specs.Order.{hierarchy}
+use Rattle.ale_engine.specs.Engine.{Outcome}
 use Rattle.ale_graph.specs.declared.closed.Closed.{Closed}
 use Rattle.ale_graph.specs.Structures.{Structure}
 use Rattle.ale_graph.specs.Closure.{node_of}
 use Rattle.ale_logic.specs.declared.answer.Answer.{Answer}
 use Rattle.ale_logic.specs.Descriptions.{Description}
-use Rattle.ale_logic.specs.States.{start}
-use Rattle.ale_logic.specs.Visits.{Outcome, search}
 use Rattle.ale_morphism.specs.Visible.{visible}
 use Rattle.ale_print.specs.Texts as print
+use Rattle.ale_search.specs.Outcomes.{found}
 
 -- the search for what satisfies a description with so many variables
-abbrev pub searched : Declared → ℕ → ℕ → Description → Outcome
-searched d budget slots desc = search (hierarchy d) budget (start slots desc ∷ [])
+abbrev pub searched : Declared → ℕ → ℕ → Description → Outcome Answer
+searched d budget slots desc = found (hierarchy d) budget slots desc
 
 -- the graph of a closure, with the node of the description as its root
 abbrev pub rooted : Closed → Structure
@@ -42,6 +42,6 @@ ending_text answers visits finished =
     codes "answers " ++ decimal answers ++ codes ", visits " ++ decimal visits ++ codes ", " ++ ending_word finished ++ codes "\n"
 
 -- command k, whose search had this outcome
-abbrev pub command_text : Declared → ℕ → Outcome → List ℕ
+abbrev pub command_text : Declared → ℕ → Outcome Answer → List ℕ
 command_text d k o =
     codes "command " ++ decimal k ++ codes ": mgsat\n" ++ answers_text d 1 o.answers ++ ending_text (length o.answers) o.visits o.finished

@@ -7,13 +7,15 @@ use Rattle.ale_declared.specs.Declarations.{Declared}
 use Rattle.ale_declared.specs.Numbering.{AreDistinct}
 use Rattle.ale_hierarchy.specs.Hierarchy.{Hierarchy, IsLawful}
 use Rattle.ale_hierarchy.specs.Order.{hierarchy}
+use Rattle.ale_engine.specs.Engine.{Outcome}
 use Rattle.ale_graph.specs.Structures.{Structure, IsStructure, count}
 use Rattle.ale_graph.specs.Morphisms.{Subsumes}
 use Rattle.ale_logic.specs.declared.answer.Answer.{Answer}
 use Rattle.ale_logic.specs.Descriptions.{Description, FitsDescription}
-use Rattle.ale_logic.specs.Solutions.{IsSolution, IsAnswer}
-use Rattle.ale_logic.specs.States.{start}
-use Rattle.ale_logic.specs.Visits.{Outcome, search}
+use Rattle.ale_logic.specs.Inequations.{HasNoInequation}
+use Rattle.ale_search.specs.Outcomes.{found}
+use Rattle.ale_search.specs.Solutions.{IsSolution, IsAnswer}
+use Rattle.ale_search.specs.Views.{empty_program}
 use Rattle.ale_print.specs.Texts as print
 use Rattle.ale_print.specs.Sameness.{IsSame}
 use Rattle.ale_report.specs.Parts.{written}
@@ -23,7 +25,7 @@ pub record IsSatisfier (h : Hierarchy) (d : Description) (s : Structure) : Type 
   pub root : ℕ
   pub root_is : s.roots ≡ Some root ∷ []
   pub assign : ℕ → ℕ
-  pub solves : IsSolution h d s root assign
+  pub solves : IsSolution h empty_program d s root assign
 
 -- each structure that is written is a satisfier
 abbrev pub WrittenAreSatisfiers : Hierarchy → Description → List Answer → Type 0
@@ -39,13 +41,13 @@ SubsumedAreSatisfiers h d cs =
     (c : Answer) → Has cs c → (s : Structure) (root : ℕ) → IsStructure h s → s.roots ≡ Some root ∷ [] → Subsumes h (written c) s → IsSatisfier h d s
 
 -- what a search for what satisfies a description has to do with what is written of it
-pub record WrittenLaw (h : Hierarchy) (d : Description) (o : Outcome) : Type 0 where
+pub record WrittenLaw (h : Hierarchy) (d : Description) (o : Outcome Answer) : Type 0 where
   pub sound : WrittenAreSatisfiers h d o.answers
   pub complete : o.finished ≡ true → SatisfiersAreWritten h d o.answers
   pub subsumed : SubsumedAreSatisfiers h d o.answers
 
 abbrev pub WrittenLaws : Type 0
-WrittenLaws = (h : Hierarchy) (slots : ℕ) (d : Description) (budget : ℕ) → IsLawful h → FitsDescription h slots d → WrittenLaw h d (search h budget (start slots d ∷ []))
+WrittenLaws = (h : Hierarchy) (slots : ℕ) (d : Description) (budget : ℕ) → IsLawful h → FitsDescription h slots d → HasNoInequation d → WrittenLaw h d (found h budget slots d)
 
 -- The text of the structure that is written fixes it: a structure with the same text has the same visible part up to the
 -- numbers of nodes.
@@ -63,4 +65,4 @@ AreCountable cs = (c : Answer) → Has cs c → count c.closed.graph < 2 ^ 64
 abbrev pub TextsLaw : Type 0
 TextsLaw =
     (d : Declared) (desc : Description) (cs : List Answer) → IsLawful (hierarchy d) → AreDistinct d.types
-    → ((c : Answer) → Has cs c → IsAnswer (hierarchy d) desc c) → AreCountable cs → TextsFix d cs
+    → ((c : Answer) → Has cs c → IsAnswer (hierarchy d) empty_program desc c) → AreCountable cs → TextsFix d cs

@@ -6,16 +6,16 @@ ghost use Rattle.ale_hierarchy.specs.Order.{hierarchy};
 ghost use Rattle.ale_graph.specs.Structures.{count};
 ghost use Rattle.ale_logic.specs.declared.answer.Answer.{Answer};
 ghost use Rattle.ale_logic.specs.Descriptions.{description, FitsDescription};
-ghost use Rattle.ale_logic.specs.Solutions.{IsAnswer};
+ghost use Rattle.ale_search.specs.Solutions.{IsAnswer};
 ghost use Rattle.ale_print.specs.Texts as print;
 ghost use Rattle.ale_report.specs.Parts.{searched, rooted, written, answer_text, answers_text, ending_text, command_text};
 ghost use Rattle.ale_report.specs.Printing.{IsPrinted};
 ghost use Rattle.ale_report.specs.Written.{AreCountable};
 
 use crate::root::rooted;
-use ale_logic::{Answer, Desc, search_law};
+use ale_logic::{Answer, Desc};
 use ale_print::{print_answer, visible_texts};
-use ale_search::find;
+use ale_search::{find, search_law};
 use ale_signature::Signature;
 use std::alloc::{AllocError, Global};
 

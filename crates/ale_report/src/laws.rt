@@ -1,7 +1,7 @@
 //! What is written of answers.
 ghost use Rattle.ale_report.specs.Written.{WrittenLaws, TextsLaw};
 
-use ale_logic::search_law;
+use ale_search::search_law;
 
 /// The laws of what is written of the answers to a description: they are its most general satisfiers, root to root, and
 /// the text of each fixes it.

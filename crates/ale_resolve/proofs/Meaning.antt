@@ -11,7 +11,8 @@ use Rattle.ale_declared.proofs.NameLemmas.{named_none}
 use Rattle.ale_term.specs.Terms as term
 use Rattle.ale_term.specs.Terms.{TermData, TermsData}
 use Rattle.ale_logic.specs.Descriptions as description
-use Rattle.ale_logic.specs.Descriptions.{Description, Descriptions, of_type, slot, at, all, any, meet, none, more, FitsPath, FitsDescription, FitDescriptions, HasNoChoice, HaveNoChoice}
+use Rattle.ale_logic.specs.Descriptions.{Description, Descriptions, of_type, slot, at, all, any, differs, path_equation, none, more, FitsPath, FitsDescription, FitDescriptions, HasNoChoice, HaveNoChoice}
+use Rattle.ale_logic.specs.Inequations.{HasNoInequation, HaveNoInequation}
 use Rattle.ale_resolve.specs.declared.error.NameError.{NameError}
 use Rattle.ale_resolve.specs.declared.error.NameError.TheVariants.{UnknownType, UnknownFeature, NoMemory}
 use Rattle.ale_resolve.specs.Forms.{parts, parts_of_all, has_no_choice, have_no_choice}
@@ -97,9 +98,9 @@ mutual
       let r = with_ok (all_resolved d vs ts) (λ r. Ok (any r.0, r.1)) (x, us) e in
       moved (ok_pair (any r.0.0) x r.0.1 us r.2) (a_disjunction vs r.0.1 ts r.0.0 (all_stand d vs r.0.1 ts r.0.0 r.1))
   stands d vs us (term.meet p q) x e =
-      let r = with_ok (path_of d p) (λ ps. with (path_of d q) (λ qs. Ok (meet ps qs, vs))) (x, us) e in
-      let s = with_ok (path_of d q) (λ qs. Ok (meet r.0 qs, vs)) (x, us) r.2 in
-      moved (ok_pair (meet r.0 s.0) x vs us s.2) (an_equation vs p q r.0 s.0 (path_found d p r.0 r.1) (path_found d q s.0 s.1))
+      let r = with_ok (path_of d p) (λ ps. with (path_of d q) (λ qs. Ok (path_equation ps qs, vs))) (x, us) e in
+      let s = with_ok (path_of d q) (λ qs. Ok (path_equation r.0 qs, vs)) (x, us) r.2 in
+      moved (ok_pair (path_equation r.0 s.0) x vs us s.2) (an_equation vs p q r.0 s.0 (path_found d p r.0 r.1) (path_found d q s.0 s.1))
   stands d vs us (term.differs t) x e = absurd cc
   stands d vs us (term.macro n ts) x e = absurd cc
   stands d vs us (term.list ts) x e = absurd cc
@@ -125,8 +126,8 @@ mutual
   given d vs us t x (a_conjunction ws zs ts xs s) = ap (λ r. with r (λ r. Ok (all r.0, r.1))) (all_given d ws zs ts xs s)
   given d vs us t x (a_disjunction ws zs ts xs s) = ap (λ r. with r (λ r. Ok (any r.0, r.1))) (all_given d ws zs ts xs s)
   given d vs us t x (an_equation ws p q ps qs a b) =
-      ap (λ r. with r (λ ps. with (path_of d q) (λ qs. Ok (meet ps qs, ws)))) (path_only d p ps a)
-      ∙ ap (λ r. with r (λ qs. Ok (meet ps qs, ws))) (path_only d q qs b)
+      ap (λ r. with r (λ ps. with (path_of d q) (λ qs. Ok (path_equation ps qs, ws)))) (path_only d p ps a)
+      ∙ ap (λ r. with r (λ qs. Ok (path_equation ps qs, ws))) (path_only d q qs b)
 
   all_given : (d : Declared) (vs us : List (List ℕ)) (ts : TermsData) (xs : Descriptions) → AllStandFor d vs ts xs us → all_resolved d vs ts ≡ Ok (xs, us)
   all_given d vs us ts xs (no_more ws) = refl
@@ -177,6 +178,20 @@ mutual
       let b = both_of (has_no_choice t) (have_no_choice rest) h in
       (no_choice d ws ys t x s b.0, no_choices d ys zs rest ys' k b.1)
 
+-- no inequation is looked up
+mutual
+  pub no_inequation : (d : Declared) (vs us : List (List ℕ)) (t : TermData) (x : Description) → StandsFor d vs t x us → HasNoInequation x
+  no_inequation d vs us t x (a_type ws n k e) = tt
+  no_inequation d vs us t x (a_variable ws zs v k s) = tt
+  no_inequation d vs us t x (a_value ws zs f k u y e s) = no_inequation d ws zs u y s
+  no_inequation d vs us t x (a_conjunction ws zs ts xs s) = no_inequations d ws zs ts xs s
+  no_inequation d vs us t x (a_disjunction ws zs ts xs s) = no_inequations d ws zs ts xs s
+  no_inequation d vs us t x (an_equation ws p q ps qs a b) = tt
+
+  no_inequations : (d : Declared) (vs us : List (List ℕ)) (ts : TermsData) (xs : Descriptions) → AllStandFor d vs ts xs us → HaveNoInequation xs
+  no_inequations d vs us ts xs (no_more ws) = tt
+  no_inequations d vs us ts xs (one_more ws ys zs t rest x ys' s k) = (no_inequation d ws ys t x s, no_inequations d ys zs rest ys' k)
+
 -- the variables grow, and by no more than the parts
 pub record Grows (vs us : List (List ℕ)) (n : ℕ) : Type 0 where
   pub more : length vs ≤ length us
@@ -207,7 +222,8 @@ mutual
   with_slots d a b (at f x) low fit = (fit.0, with_slots d a b x low fit.1)
   with_slots d a b (all xs) low fit = all_with_slots d a b xs low fit
   with_slots d a b (any xs) low fit = all_with_slots d a b xs low fit
-  with_slots d a b (meet p q) low fit = fit
+  with_slots d a b (differs x) low fit = with_slots d a b x low fit
+  with_slots d a b (path_equation p q) low fit = fit
 
   all_with_slots : (d : Declared) (a b : ℕ) (xs : Descriptions) → a ≤ b → FitDescriptions (hierarchy d) a xs → FitDescriptions (hierarchy d) b xs
   all_with_slots d a b none low fit = tt
@@ -336,11 +352,11 @@ mutual
     | inl missing ↦ all_caused d vs ts e missing
     | inr r ↦ absurd (no_err (any r.0.0, r.0.1) e r.2)
   ]
-  caused d vs (term.meet p q) e k = elim (with_err (path_of d p) (λ ps. with (path_of d q) (λ qs. Ok (meet ps qs, vs))) e k) [
+  caused d vs (term.meet p q) e k = elim (with_err (path_of d p) (λ ps. with (path_of d q) (λ qs. Ok (path_equation ps qs, vs))) e k) [
     | inl missing ↦ caused_left d (map feature p) (map feature q) e (path_caused d p e missing)
-    | inr r ↦ elim (with_err (path_of d q) (λ qs. Ok (meet r.0 qs, vs)) e r.2) [
+    | inr r ↦ elim (with_err (path_of d q) (λ qs. Ok (path_equation r.0 qs, vs)) e r.2) [
       | inl missing ↦ caused_right d (map feature p) (map feature q) e (path_declared d p r.0 (path_found d p r.0 r.1)) (path_caused d q e missing)
-      | inr s ↦ absurd (no_err (meet r.0 s.0, vs) e s.2)
+      | inr s ↦ absurd (no_err (path_equation r.0 s.0, vs) e s.2)
     ]
   ]
   caused d vs (term.differs t) e k = no_memory d [] e k

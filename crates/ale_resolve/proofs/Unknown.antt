@@ -5,7 +5,7 @@ use Rattle.ale_declared.specs.Declarations.{Declared}
 use Rattle.ale_declared.specs.Names.{named}
 use Rattle.ale_term.specs.Terms as term
 use Rattle.ale_term.specs.Terms.{TermData, TermsData}
-use Rattle.ale_logic.specs.Descriptions.{Description, Descriptions, of_type, at, all, any, meet, more}
+use Rattle.ale_logic.specs.Descriptions.{Description, Descriptions, of_type, at, all, any, path_equation, more}
 use Rattle.ale_resolve.specs.declared.error.NameError.{NameError}
 use Rattle.ale_resolve.specs.declared.error.NameError.TheVariants.{UnknownType, UnknownFeature}
 use Rattle.ale_resolve.specs.Forms.{is_plain, are_plain}
@@ -69,11 +69,11 @@ mutual
     | inl missing ↦ all_tell d vs ts e h missing
     | inr r ↦ absurd (no_err (any r.0.0, r.0.1) e r.2)
   ]
-  tells d vs (term.meet p q) e h k = elim (with_err (path_of d p) (λ ps. with (path_of d q) (λ qs. Ok (meet ps qs, vs))) e k) [
+  tells d vs (term.meet p q) e h k = elim (with_err (path_of d p) (λ ps. with (path_of d q) (λ qs. Ok (path_equation ps qs, vs))) e k) [
     | inl missing ↦ path_tells d p e missing
-    | inr r ↦ elim (with_err (path_of d q) (λ qs. Ok (meet r.0 qs, vs)) e r.2) [
+    | inr r ↦ elim (with_err (path_of d q) (λ qs. Ok (path_equation r.0 qs, vs)) e r.2) [
       | inl missing ↦ path_tells d q e missing
-      | inr s ↦ absurd (no_err (meet r.0 s.0, vs) e s.2)
+      | inr s ↦ absurd (no_err (path_equation r.0 s.0, vs) e s.2)
     ]
   ]
   tells d vs (term.differs t) e h k = absurd cc

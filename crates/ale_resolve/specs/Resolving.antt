@@ -6,7 +6,7 @@ use Rattle.ale_declared.specs.Declarations.{Declared}
 use Rattle.ale_declared.specs.Names.{named}
 use Rattle.ale_term.specs.Terms as term
 use Rattle.ale_term.specs.Terms.{TermData, TermsData}
-use Rattle.ale_logic.specs.Descriptions.{Description, Descriptions, of_type, slot, at, all, any, meet, none, more}
+use Rattle.ale_logic.specs.Descriptions.{Description, Descriptions, of_type, slot, at, all, any, path_equation, none, more}
 use Rattle.ale_resolve.specs.declared.error.NameError.{NameError}
 use Rattle.ale_resolve.specs.declared.error.NameError.TheVariants.{UnknownType, UnknownFeature, NoMemory}
 use Rattle.ale_resolve.specs.Variables.{IsSlot, slot_of, with_variable}
@@ -27,7 +27,7 @@ mutual
     a_disjunction : (vs us : List (List ℕ)) (ts : TermsData) (xs : Descriptions) → AllStandFor d vs ts xs us →
         StandsFor d vs (term.any ts) (any xs) us
     an_equation : (vs : List (List ℕ)) (p q : List (List ℕ)) (ps qs : List ℕ) → IsPath d p ps → IsPath d q qs →
-        StandsFor d vs (term.meet p q) (meet ps qs) vs
+        StandsFor d vs (term.meet p q) (path_equation ps qs) vs
 
   -- one after another, from left to right
   pub data AllStandFor (d : Declared) : List (List ℕ) → TermsData → Descriptions → List (List ℕ) → Type 0 where
@@ -62,7 +62,7 @@ abbrev mutual
   resolved d vs (term.at f t) = with (feature_of d f) (λ k. with (resolved d vs t) (λ r. Ok (at k r.0, r.1)))
   resolved d vs (term.all ts) = with (all_resolved d vs ts) (λ r. Ok (all r.0, r.1))
   resolved d vs (term.any ts) = with (all_resolved d vs ts) (λ r. Ok (any r.0, r.1))
-  resolved d vs (term.meet p q) = with (path_of d p) (λ ps. with (path_of d q) (λ qs. Ok (meet ps qs, vs)))
+  resolved d vs (term.meet p q) = with (path_of d p) (λ ps. with (path_of d q) (λ qs. Ok (path_equation ps qs, vs)))
   resolved d vs (term.differs t) = Err NoMemory
   resolved d vs (term.macro n ts) = Err NoMemory
   resolved d vs (term.list ts) = Err NoMemory

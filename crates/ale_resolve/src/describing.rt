@@ -2,6 +2,7 @@ ghost use Rattle.std.specs.Prelude.{◌≡◌, ◌≢◌, ◌≤◌, ◌+◌, �
 ghost use Rattle.ale_hierarchy.specs.Order.{hierarchy};
 ghost use Rattle.ale_term.specs.Terms.{term_data};
 ghost use Rattle.ale_logic.specs.Descriptions.{Description, description, FitsDescription, HasNoChoice, parts as parts_described};
+ghost use Rattle.ale_logic.specs.Inequations.{HasNoInequation};
 ghost use Rattle.ale_resolve.specs.declared.error.NameError.TheVariants.{NoMemory};
 ghost use Rattle.ale_resolve.specs.Forms.{is_plain, parts, has_no_choice};
 ghost use Rattle.ale_resolve.specs.declared.error.NameError.{NameError};
@@ -121,6 +122,7 @@ pub fn describe(alloc: Global, sig: &Signature, term: &Term) -> Result<Described
     ensures fits { IfOk result (λ r. FitsDescription (hierarchy sig.now) r.slots (description r.desc)) }
     ensures parts { IfOk result (λ r. parts_described (description r.desc) ≡ parts (term_data term.now)) }
     ensures no_choice { has_no_choice (term_data term.now) ≡ true → IfOk result (λ r. HasNoChoice (description r.desc)) }
+    ensures no_inequation { IfOk result (λ r. HasNoInequation (description r.desc)) }
 {
     let mut slots = Slots::new(alloc);
     let desc = look_up(alloc, sig, &mut slots, term)?;

@@ -24,7 +24,7 @@ passed_step ps i p old new low at is =
 module _ (d : Declared) (budget : ℕ) (qs : List Described) (i : ℕ) (q : Described) (low : i < length qs) (at : q ≡ get_or qs i q) where
   -- what is left fits, the first of it and the others
   pub fits_first : (h : Hierarchy) → AllFit h (map query_data (drop i qs)) → FitsDescription h (length q.names) (description q.desc)
-  fits_first h fit = (subst (λ zs. AllFit h (map query_data zs)) (drop_item qs i q low at) fit).0
+  fits_first h fit = (subst (λ zs. AllFit h (map query_data zs)) (drop_item qs i q low at) fit).0.fits
 
   pub fits_others : (h : Hierarchy) → AllFit h (map query_data (drop i qs)) → AllFit h (map query_data (drop (i + 1) qs))
   fits_others h fit = (subst (λ zs. AllFit h (map query_data zs)) (drop_item qs i q low at) fit).1

@@ -1,7 +1,8 @@
 -- The defined output: what the program ends with and what it writes, for a grammar, commands and a budget.
 use Rattle.std.specs.Prelude.{◌≡◌, ℕ, suc, Bool, true, false, ◌&&◌, Result, Ok, Err, List, [], ◌∷◌, ◌++◌, codes, length}
 use Rattle.ale_declared.specs.Declarations.{Declared}
-use Rattle.ale_logic.specs.Visits.{Outcome}
+use Rattle.ale_engine.specs.Engine.{Outcome}
+use Rattle.ale_logic.specs.declared.answer.Answer.{Answer}
 use Rattle.ale_load.specs.declared.grammar_error.GrammarError.{GrammarError}
 use Rattle.ale_load.specs.declared.command_error.CommandError.{CommandError}
 use Rattle.ale_load.specs.Grammars.{LoadedData, IsLoaded, load_of}
@@ -12,7 +13,7 @@ use Rattle.ale_top.specs.declared.status.Status.TheVariants.{Done, Unfinished, G
 use Rattle.ale_top.specs.Lines.{grammar_line, command_line, passed_text}
 
 -- the search for what a command asks for
-abbrev pub search_for : Declared → ℕ → Query → Outcome
+abbrev pub search_for : Declared → ℕ → Query → Outcome Answer
 search_for d budget q = searched d budget (length q.1) q.0
 
 -- the parts of the commands, counted from k on; each search has the whole budget

@@ -5,7 +5,8 @@ use Rattle.std.specs.Io.KnownBytes.{Appends}
 use Rattle.ale_top.specs.declared.status.Status.{Status}
 use Rattle.ale_top.specs.declared.status.Status.TheVariants.{Done, Unfinished, Words, Grammar, Commands, ReadFault, WriteFault, NoMemory}
 use Rattle.ale_relation.specs.Has.{Has}
-use Rattle.ale_logic.specs.Visits.{Outcome}
+use Rattle.ale_engine.specs.Engine.{Outcome}
+use Rattle.ale_logic.specs.declared.answer.Answer.{Answer}
 use Rattle.ale_load.specs.Grammars.{LoadedData, IsLoaded}
 use Rattle.ale_load.specs.Commands.{Query, AreCommands}
 use Rattle.ale_top.specs.Jobs.{Job, job_of}
@@ -80,12 +81,12 @@ abbrev pub AreAccepted : List ℕ → List ℕ → Type 0
 AreAccepted g c = (l : LoadedData) × (qs : List Query) × Asks g c l qs
 
 -- what holds of the grammar, of each command and of what its search comes to
-abbrev pub OfEachIn : List ℕ → List ℕ → ℕ → (LoadedData → Query → Outcome → Type 0) → Type 0
+abbrev pub OfEachIn : List ℕ → List ℕ → ℕ → (LoadedData → Query → Outcome Answer → Type 0) → Type 0
 OfEachIn g c budget P =
     (l : LoadedData) (qs : List Query) → Asks g c l qs → (q : Query) → Has qs q → P l q (search_for l.signature_of budget q)
 
 -- the same of all texts
-abbrev pub OfEachCommand : ℕ → (LoadedData → Query → Outcome → Type 0) → Type 0
+abbrev pub OfEachCommand : ℕ → (LoadedData → Query → Outcome Answer → Type 0) → Type 0
 OfEachCommand budget P = (g c : List ℕ) → OfEachIn g c budget P
 
 -- every search that is asked for ends within the budget

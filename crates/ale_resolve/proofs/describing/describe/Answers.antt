@@ -6,7 +6,7 @@ use Rattle.ale_term.specs.Terms.{term_data}
 use Rattle.ale_logic.specs.Descriptions.{description, FitsDescription}
 use Rattle.ale_resolve.specs.Resolving.{StandsFor, resolved}
 use Rattle.ale_resolve.specs.Results.{Fails}
-use Rattle.ale_resolve.proofs.Meaning.{stands, same_parts, no_choice, grows, fits}
+use Rattle.ale_resolve.proofs.Meaning.{stands, same_parts, no_choice, no_inequation, grows, fits}
 use Rattle.ale_resolve.proofs.LookedUp.{described_as, refused_as, described_only, refused_only}
 use Rattle.ale_resolve.proofs.describing.describe.Goals as goal
 
@@ -63,3 +63,7 @@ returns-clause-parts c =
 pub returns-clause-no_choice : goal.returns-clause-no_choice
 returns-clause-no_choice c h =
     no_choice c.args.sig.now [] c.into_names-names.result (term_data c.args.term.now) (description c.in_ok-desc.desc) (stands_for c) h
+
+pub returns-clause-no_inequation : goal.returns-clause-no_inequation
+returns-clause-no_inequation c =
+    no_inequation c.args.sig.now [] c.into_names-names.result (term_data c.args.term.now) (description c.in_ok-desc.desc) (stands_for c)
