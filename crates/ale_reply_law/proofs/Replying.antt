@@ -7,7 +7,7 @@ use Rattle.ale_graph.specs.Structures.{Structure, root_at}
 use Rattle.ale_graph.specs.Morphisms.{IsMorphismAside, Subsumes}
 use Rattle.ale_graph.specs.Closure.{node_of}
 use Rattle.ale_graph.proofs.Lists.{has_map, some_one, none_some}
-use Rattle.ale_logic.specs.Descriptions.{Description, FitsDescription}
+use Rattle.ale_logic.specs.Descriptions.{Description, Describes, FitsDescription}
 use Rattle.ale_logic.specs.Goals.{Goal, FitsGoal, IsPlain}
 use Rattle.ale_logic.specs.Programs.{Word, Program}
 use Rattle.ale_logic.specs.Words.{Entry, Environment, bound_in}
@@ -73,14 +73,21 @@ module _ (h : Hierarchy) (program : Program) (accepted : IsAccepted h program) w
     sound = λ x has.
       let f = has_map show (found_from h program budget (start slots d)).answers x has in
       subst (λ (z : Shown). IsPartOfSolution (without_words (SolvesDescription h program d)) z) (sym f.2)
-        (record { solution = f.0.closed.graph; root = node_of f.0.closed 0; solves = (law.sound f.0 f.1, refl); visible_part = refl });
+        (record { solution = f.0.closed.graph; root = node_of f.0.closed 0; solves = (solved f.0 f.1, refl); visible_part = refl });
     complete = λ complete s n ws solves.
-      let r = law.complete (finished complete) s n solves.0 in
-      record { answer = show r.0; has = map_has show (found_from h program budget (start slots d)).answers r.0 r.1; words = sym solves.1; subsumes = one_root h r.0.closed.graph s (node_of r.0.closed 0) n r.2 };
+      let describes : Describes h s d n = solves.0.1 in
+      let r = law.complete (finished complete) s n describes.assign (record { root = solves.0.0; nodes = describes.nodes; holds = describes.holds }) in
+      record { answer = show r.0; has = map_has show (found_from h program budget (start slots d)).answers r.0 r.1; words = sym solves.1; subsumes = one_root h r.0.closed.graph s (node_of r.0.closed 0) n r.2.subsumes };
   }
     where
       law : DescriptionLaw h program slots d budget
       law = laws h program slots d budget accepted fit
+
+      solved : (a : Answer) → Has (found_from h program budget (start slots d)).answers a → SolvesDescription h program d a.closed.graph (node_of a.closed 0)
+      solved a has =
+          let itself = law.sound a has in
+          let under = itself.solves (λ v. node_of a.closed 0) (λ v. itself.root.node) in
+          (itself.root, record { assign = node_for a (λ v. node_of a.closed 0); nodes = under.nodes; holds = under.holds })
 
       show : Answer → Shown
       show a = record { words = []; structure = shown_root a }
