@@ -1,0 +1,14 @@
+pub mod GraphFacts
+pub mod Items
+pub mod Searches
+pub mod Maps
+pub mod Covering
+pub mod Advancing
+pub mod Results
+pub mod Extensions
+pub mod Good
+pub mod Grown
+pub mod Beginning
+pub mod Budgets
+pub mod Whole
+pub mod Starting
