@@ -271,7 +271,7 @@ module _ (h : Hierarchy) (program : Program) (u : Structure) (str : IsStructure 
           of (Some m) q (inl p) =
               let w = subst (λ w. Satisfies (wordless h program) u z w remain) p sat in
               let same : z.node m ≡ z.node ((0 + count x.kept.graph) + y.root) =
-                  w.fulfils.holds (Same m (root_beside x es y)) (has_right (graph_facts 0 x.kept.graph ++ graph_facts (0 + count x.kept.graph) y.kept.graph) (Same m (root_beside x es y) ∷ []) (Same m (root_beside x es y)) (inl refl)) in
+              w.fulfils.holds (Same m (root_beside x es y)) (has_right (graph_facts 0 x.kept.graph ++ graph_facts (0 + count x.kept.graph) y.kept.graph) (Same m (root_beside x es y) ∷ []) (Same m (root_beside x es y)) (inl refl)) in
               let r = ended w.items in
               record {
                 rests = inl r.0;

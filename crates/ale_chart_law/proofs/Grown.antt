@@ -67,12 +67,12 @@ module _ (extract : Extract) (program : Program) (before : List ChartItem) (x : 
   pub in_takes : (t : ItemTask) (y : ChartItem) → Has before y → Has (daughter_tasks extract program x x.rest y y.rest) t → Has (tasks_of extract program before x) t
   in_takes t y at p =
       has_right (own_tasks extract program x x.rest) (flat_map (pair_tasks extract program x) before) t
-        (has_flat (pair_tasks extract program x) before y t at (has_left (daughter_tasks extract program x x.rest y y.rest) (daughter_tasks extract program y y.rest x x.rest) t p))
+      (has_flat (pair_tasks extract program x) before y t at (has_left (daughter_tasks extract program x x.rest y y.rest) (daughter_tasks extract program y y.rest x x.rest) t p))
 
   pub in_taken : (t : ItemTask) (y : ChartItem) → Has before y → Has (daughter_tasks extract program y y.rest x x.rest) t → Has (tasks_of extract program before x) t
   in_taken t y at p =
       has_right (own_tasks extract program x x.rest) (flat_map (pair_tasks extract program x) before) t
-        (has_flat (pair_tasks extract program x) before y t at (has_right (daughter_tasks extract program x x.rest y y.rest) (daughter_tasks extract program y y.rest x x.rest) t p))
+      (has_flat (pair_tasks extract program x) before y t at (has_right (daughter_tasks extract program x x.rest y y.rest) (daughter_tasks extract program y y.rest x x.rest) t p))
 
 -- an item does not take itself
 takes_self : (extract : Extract) (program : Program) (x : ChartItem) (t : ItemTask) → Has (daughter_tasks extract program x x.rest x x.rest) t → ⊥
@@ -237,7 +237,7 @@ module _ (h : Hierarchy) (program : Program) (ok : IsAccepted h program) (runs :
           of (st, at, is) =
               let found_st : Has (search (visit (wordless h program)) budget (st ∷ [])).answers a = subst (λ (w : ItemTask). Has (search (visit (wordless h program)) budget w.waiting).answers a) is found in
               subst (λ (w : ItemTask). IsGood h program sentence (w.made a)) (sym is)
-                (own_good h program ok runs puts extract part sentence x good e es eq st at a (came h program ok runs x st (own_is h program ok.lawful x good.item e es eq st at) budget a found_st))
+              (own_good h program ok runs puts extract part sentence x good e es eq st at a (came h program ok runs x st (own_is h program ok.lawful x good.item e es eq st at) budget a found_st))
 
   pair_found : (x y : ChartItem) → IsGood h program sentence x → IsGood h program sentence y → (t : ItemTask) → Has (daughter_tasks extract program x x.rest y y.rest) t → (budget : ℕ) (a : Answer) → Has (search (visit (wordless h program)) budget t.waiting).answers a → IsGood h program sentence (t.made a)
   pair_found x y good other t has budget a found = go x.rest refl y.rest refl has
@@ -251,7 +251,7 @@ module _ (h : Hierarchy) (program : Program) (ok : IsAccepted h program) (runs :
           of begins (st, at, is) =
               let found_st : Has (search (visit (wordless h program)) budget (st ∷ [])).answers a = subst (λ (w : ItemTask). Has (search (visit (wordless h program)) budget w.waiting).answers a) is found in
               subst (λ (w : ItemTask). IsGood h program sentence (w.made a)) (sym is)
-                (pair_good h program ok runs puts extract part sentence x good e es eq y other passive begins st at a (came h program ok runs x st (daughter_is h program ok.lawful x good.item e es eq y other.item st at) budget a found_st))
+              (pair_good h program ok runs puts extract part sentence x good e es eq y other passive begins st at a (came h program ok runs x st (daughter_is h program ok.lawful x good.item e es eq y other.item st at) budget a found_st))
 
           meets : (b : Bool) → eqb x.to y.from ≡ b → Has (if b then map (item_task extract x y.to) (daughter_start program x e es y) else []) t → IsGood h program sentence (t.made a)
           meets true q has = of (sym (eqb-true x.to y.from q)) (has_map (item_task extract x y.to) (daughter_start program x e es y) t has)

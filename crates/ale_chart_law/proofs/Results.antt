@@ -133,21 +133,21 @@ module _ (h : Hierarchy) (program : Program) (ok : IsAccepted h program) (puts :
   own_down x st shape u z remain sat =
       let far = shape.far in
       subst (IsMorphismAside h x.kept.graph u) (from_zero z.node)
-        ((puts h u z.node 0 x.kept.graph).down (λ n low. sat.fulfils.into (0 + n) (omega arith)) (λ f has. sat.fulfils.holds f (subst (λ fs. Has fs f) (sym shape.facts) has)))
+      ((puts h u z.node 0 x.kept.graph).down (λ n low. sat.fulfils.into (0 + n) (omega arith)) (λ f has. sat.fulfils.holds f (subst (λ fs. Has fs f) (sym shape.facts) has)))
 
   pub pair_down : (x y : ChartItem) (st : State) → PairShape x y st → (u : Structure) (z : Sense) (remain : List Element) → Satisfies (wordless h program) u z st remain → IsMorphismAside h x.kept.graph u z.node
   pair_down x y st shape u z remain sat =
       let far = shape.far in
       subst (IsMorphismAside h x.kept.graph u) (from_zero z.node)
-        ((puts h u z.node 0 x.kept.graph).down (λ n low. sat.fulfils.into (0 + n) (omega arith))
-          (λ f has. sat.fulfils.holds f (subst (λ fs. Has fs f) (sym shape.facts) (has_left (graph_facts 0 x.kept.graph ++ graph_facts (0 + count x.kept.graph) y.kept.graph) shape.more f (has_left (graph_facts 0 x.kept.graph) (graph_facts (0 + count x.kept.graph) y.kept.graph) f has)))))
+      ((puts h u z.node 0 x.kept.graph).down (λ n low. sat.fulfils.into (0 + n) (omega arith))
+      (λ f has. sat.fulfils.holds f (subst (λ fs. Has fs f) (sym shape.facts) (has_left (graph_facts 0 x.kept.graph ++ graph_facts (0 + count x.kept.graph) y.kept.graph) shape.more f (has_left (graph_facts 0 x.kept.graph) (graph_facts (0 + count x.kept.graph) y.kept.graph) f has)))))
 
   -- and of the other item
   pub other_down : (x y : ChartItem) (st : State) → PairShape x y st → (u : Structure) (z : Sense) (remain : List Element) → Satisfies (wordless h program) u z st remain → IsMorphismAside h y.kept.graph u (λ n. z.node ((0 + count x.kept.graph) + n))
   other_down x y st shape u z remain sat =
       let far = shape.far in
       (puts h u z.node (0 + count x.kept.graph) y.kept.graph).down (λ n low. sat.fulfils.into ((0 + count x.kept.graph) + n) (omega arith))
-        (λ f has. sat.fulfils.holds f (subst (λ fs. Has fs f) (sym shape.facts) (has_left (graph_facts 0 x.kept.graph ++ graph_facts (0 + count x.kept.graph) y.kept.graph) shape.more f (has_right (graph_facts 0 x.kept.graph) (graph_facts (0 + count x.kept.graph) y.kept.graph) f has))))
+      (λ f has. sat.fulfils.holds f (subst (λ fs. Has fs f) (sym shape.facts) (has_left (graph_facts 0 x.kept.graph ++ graph_facts (0 + count x.kept.graph) y.kept.graph) shape.more f (has_right (graph_facts 0 x.kept.graph) (graph_facts (0 + count x.kept.graph) y.kept.graph) f has))))
 
   pub own_leads : (x : ChartItem) (e : Element) (es : List Element) (st : State) → Has (own_start program x e es) st → Leads x es st
   own_leads x e es st has = record {

@@ -135,7 +135,7 @@ module _ (h : Hierarchy) (program : Program) (ok : IsAccepted h program) (runs :
           at : (z : State) → Has (st ∷ []) z → IsAnswer gr z a → (IsInFragment gr z → (s : Structure) (to : ℕ → ℕ) → IsInto gr a s to → (free : FreeSense s a) → Returns gr s z a to free) → Came st a
           at z (inl e) is back =
               came_at x st start a (subst (λ (y : State). IsAnswer gr y a) e is)
-                (subst (λ (y : State). (s : Structure) (to : ℕ → ℕ) → IsInto gr a s to → (free : FreeSense s a) → Returns gr s y a to free) e (back (fragment z e)))
+              (subst (λ (y : State). (s : Structure) (to : ℕ → ℕ) → IsInto gr a s to → (free : FreeSense s a) → Returns gr s y a to free) e (back (fragment z e)))
           at z (inr e) is back = absurd e
 
   module _ (extract : Extract) (part : PartLaw h program extract) where

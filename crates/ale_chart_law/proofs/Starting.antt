@@ -56,13 +56,13 @@ module _ (h : Hierarchy) (program : Program) (law : IsLawful h) (fits : FitsProg
       go None fit_goal =
           let low = is.root_below in
           quiet_start h item (doing (on x.root (holds 0 rule.input)) (doing (on (0 + count x.kept.graph) (holds 0 rule.output)) (doing_goal 0 0 None (grown 1 (putting x.kept (nothing (replicate rule.slots None) []))))))
-            (own_one h law item kept [] (λ d p. absurd p) ((0 + count x.kept.graph) + 1) (on x.root (holds 0 rule.input) ∷ on (0 + count x.kept.graph) (holds 0 rule.output) ∷ []) (omega arith)
-              ((omega arith, (omega arith, input)), ((omega arith, (omega arith, output)), tt)) (tt, (tt, tt)))
+          (own_one h law item kept [] (λ d p. absurd p) ((0 + count x.kept.graph) + 1) (on x.root (holds 0 rule.input) ∷ on (0 + count x.kept.graph) (holds 0 rule.output) ∷ []) (omega arith)
+          ((omega arith, (omega arith, input)), ((omega arith, (omega arith, output)), tt)) (tt, (tt, tt)))
       go (Some g) fit_goal =
           let low = is.root_below in
           quiet_start h item (doing (on x.root (holds 0 rule.input)) (doing (on (0 + count x.kept.graph) (holds 0 rule.output)) (doing_goal 0 0 (Some g) (grown 1 (putting x.kept (nothing (replicate rule.slots None) []))))))
-            (own_one h law item kept [] (λ d p. absurd p) ((0 + count x.kept.graph) + 1) (on x.root (holds 0 rule.input) ∷ on (0 + count x.kept.graph) (holds 0 rule.output) ∷ derive 0 0 g ∷ []) (omega arith)
-              ((omega arith, (omega arith, input)), ((omega arith, (omega arith, output)), ((omega arith, subst (λ n. FitsGoal h n g) slots fit_goal), tt))) (tt, (tt, (tt, tt))))
+          (own_one h law item kept [] (λ d p. absurd p) ((0 + count x.kept.graph) + 1) (on x.root (holds 0 rule.input) ∷ on (0 + count x.kept.graph) (holds 0 rule.output) ∷ derive 0 0 g ∷ []) (omega arith)
+          ((omega arith, (omega arith, input)), ((omega arith, (omega arith, output)), ((omega arith, subst (λ n. FitsGoal h n g) slots fit_goal), tt))) (tt, (tt, (tt, tt))))
 
   module _ (x : ChartItem) (e : Element) (es : List Element) (it : IsItem h program x) (eq : x.rest ≡ e ∷ es) where
     active : IsActive h program x

@@ -71,9 +71,9 @@ module _ (runs : RunLaws) (visible : VisibleLaw) (extract : Extract) (h : Hierar
       solved : x.from ≡ 0 → x.to ≡ length sentence → GrowsTo h x.kept.graph x.root (λ t. SolvesSentence h program sentence t x.root)
       solved from to =
           grows visible h program x.kept x.root (λ t. Spans h program t sentence x.root x.from x.to) (λ t. SolvesSentence h program sentence t x.root) g.item.is (g.owes none) (own_spans x g none)
-            (λ t model more says.
-                let low = g.item.is.root_below in
-                (record { model = model; node = omega arith }, subst (λ i. Spans h program t sentence x.root i (length sentence)) from (subst (λ k. Spans h program t sentence x.root x.from k) to says)))
+          (λ t model more says.
+          let low = g.item.is.root_below in
+          (record { model = model; node = omega arith }, subst (λ i. Spans h program t sentence x.root i (length sentence)) from (subst (λ k. Spans h program t sentence x.root x.from k) to says)))
 
   sound_item : (x : ChartItem) → IsGood h program sentence x → IsSoundItem h program sentence x
   sound_item x g = record { is = g.item.is; rest_below = rest_below h program x g.item; places = (g.ordered, g.place); passive = λ none. sound_passive x g none }
@@ -105,8 +105,8 @@ module _ (runs : RunLaws) (visible : VisibleLaw) (extract : Extract) (h : Hierar
       at_empty = λ i low e has.
           let same : i ≡ 0 + i = omega arith in
           stays (passive_of i i e)
-            (between_there program words 0 sentence i low (passive_of i i e)
-              (subst (λ n. Has (between words program n) (passive_of i i e)) same (has_left (map (passive_of i i) words.empties) (rules_from i 0 program.rules) (passive_of i i e) (in_map (passive_of i i) words.empties e has))));
+          (between_there program words 0 sentence i low (passive_of i i e)
+          (subst (λ n. Has (between words program n) (passive_of i i e)) same (has_left (map (passive_of i i) words.empties) (rules_from i 0 program.rules) (passive_of i i e) (in_map (passive_of i i) words.empties e has))));
       at_rule = λ i low r has.
           let same : i ≡ 0 + i = omega arith in
           let t = rule_there program words i r has in
