@@ -1,5 +1,5 @@
 -- Extensions one after the other, and what goes on into them: morphisms, constraints that are met, added nodes.
-use Rattle.std.proofs.Common.{◌≡◌, ℕ, ◌<◌, ◌≤◌, List, [], ◌++◌, append_assoc, ◌⊎◌, inl, inr, refl, sym, ap, ◌∙◌, subst, arith, Some}
+use Rattle.std.proofs.Common.{ℕ, ◌<◌, ◌≤◌, List, [], ◌++◌, append_assoc, ◌⊎◌, inl, inr, refl, sym, ap, ◌∙◌, subst, arith}
 use Rattle.std.proofs.lemmas.Bool.{cases_lt}
 use Rattle.std.proofs.lemmas.List.{append-nil}
 use Rattle.ale_hierarchy.specs.Hierarchy.{Hierarchy, Above}
@@ -7,8 +7,8 @@ use Rattle.ale_graph.specs.declared.node.Node.{Node}
 use Rattle.ale_graph.specs.Structures.{Structure, IsStructure, count, type_of}
 use Rattle.ale_graph.specs.Morphisms.{IsMorphismAside}
 use Rattle.ale_graph.specs.Extensions.{Extends}
-use Rattle.ale_logic.specs.Programs.{Constraint, Program}
-use Rattle.ale_logic.specs.Models.{MeetsConstraint, MeetsAt, constraint_at}
+use Rattle.ale_logic.specs.Programs.{Program}
+use Rattle.ale_logic.specs.Models.{MeetsConstraint, MeetsAt}
 use Rattle.ale_logic.specs.Extending.{AddedMeet}
 use Rattle.ale_extension_law.proofs.Stays as stays
 

@@ -1,12 +1,11 @@
 -- The facts of a structure that is put among others speak of known nodes, types and features.
-use Rattle.std.proofs.Common.{◌≡◌, ℕ, zero, suc, ◌+◌, ◌<◌, ◌≤◌, Bool, true, false, ◌&&◌, eqb, ltb, IsTrue, List, [], ◌∷◌, ◌++◌, length, ◌⊎◌, inl, inr, refl, sym, ap, ◌∙◌, subst, arith, get_or, Option, Some, None, if◌then◌else◌}
+use Rattle.std.proofs.Common.{◌≡◌, ℕ, suc, ◌+◌, ◌<◌, ◌≤◌, Bool, true, false, ◌&&◌, eqb, ltb, IsTrue, List, [], ◌∷◌, length, ◌⊎◌, inl, inr, refl, sym, ap, subst, arith, get_or, Some, if◌then◌else◌}
 use Rattle.std.proofs.lemmas.Bool.{and_parts, ltb-true, eq-eqb}
 use Rattle.ale_declared.specs.Lists.{Has, every}
 use Rattle.ale_hierarchy.specs.Hierarchy.{Hierarchy, IsLawful}
 use Rattle.ale_graph.specs.declared.node.Node.{Node}
-use Rattle.ale_graph.specs.declared.fact.Fact.{Fact}
-use Rattle.ale_graph.specs.declared.fact.Fact.TheVariants.{OfType, Value, Same, Differ}
-use Rattle.ale_graph.specs.Structures.{Structure, IsStructure, count, node_at, type_of, value_in, value_of, is_node, is_rising, is_root, is_formed}
+use Rattle.ale_graph.specs.declared.fact.Fact.TheVariants.{OfType}
+use Rattle.ale_graph.specs.Structures.{Structure, IsStructure, count, node_at, type_of, value_in, is_node, is_rising, is_root, is_formed}
 use Rattle.ale_graph.specs.Facts.{Fits, FitsFact}
 use Rattle.ale_graph.proofs.Lists.{has_either, every_has}
 use Rattle.ale_graph.proofs.Structures.{get_has}

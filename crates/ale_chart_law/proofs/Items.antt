@@ -6,7 +6,7 @@ use Rattle.ale_declared.specs.Lists.{Has}
 use Rattle.ale_hierarchy.specs.Hierarchy.{Hierarchy, IsLawful}
 use Rattle.ale_graph.specs.declared.fact.Fact.{Fact}
 use Rattle.ale_graph.specs.declared.fact.Fact.TheVariants.{Same}
-use Rattle.ale_graph.specs.Structures.{Structure, IsStructure, count, value_of, is_formed}
+use Rattle.ale_graph.specs.Structures.{Structure, count, is_formed}
 use Rattle.ale_graph.specs.Facts.{Fits, FitsFact}
 use Rattle.ale_graph.proofs.Lists.{has_either, has_map, some_one, none_some}
 use Rattle.ale_graph.proofs.Structures.{value_inside}
@@ -16,9 +16,9 @@ use Rattle.ale_logic.specs.Programs.{Element, cat, cats, derived, sem_head, memb
 use Rattle.ale_logic.specs.Fitting.{IsPlainElement}
 use Rattle.ale_logic.specs.ListNodes.{hd_of, tl_of}
 use Rattle.ale_logic.specs.Words.{Environment, bound_in, Kept, IsKept}
-use Rattle.ale_logic.specs.States.{holds, Item, on, derive, split, bound, State, told, doing}
+use Rattle.ale_logic.specs.States.{holds, Item, on, derive, split, State, doing}
 use Rattle.ale_logic.specs.Putting.{graph_facts, moved}
-use Rattle.ale_logic.specs.Starts.{ChartItem, mother_at, at_node, end_of, end_items, start_item, split_at, own_start, side_by_side, root_beside, same_as, daughter_start}
+use Rattle.ale_logic.specs.Starts.{ChartItem, mother_at, at_node, end_of, end_items, split_at, own_start, side_by_side, root_beside, same_as, daughter_start}
 use Rattle.ale_logic.specs.WellFormed.{Scope, FitsEnd, FitItems, IsBelow, FitsRest, IsState, ArePlainItems, AreQuietItems}
 use Rattle.ale_logic.specs.PartLaws.{AreElementsBelow, IsElementBelow}
 use Rattle.ale_chart_law.proofs.GraphFacts.{graph_fits}
@@ -185,7 +185,7 @@ module _ (h : Hierarchy) (law : IsLawful h) (x : ChartItem) (kept : IsKept h x.k
       IsBegun h x (record { facts = facts; next = (0 + count x.kept.graph) + count y.kept.graph; imposed = moved 0 x.kept.imposed ++ moved (0 + count x.kept.graph) y.kept.imposed; envs = x.kept.env ∷ []; phrases = 0; said = []; choices = []; agenda = agenda; rest = es })
   beside_one y other facts agenda facts_fit items quiet =
       starts facts ((0 + count x.kept.graph) + count y.kept.graph) (moved 0 x.kept.imposed ++ moved (0 + count x.kept.graph) y.kept.imposed) agenda (omega arith) facts_fit
-        (λ n k has. go n k (has_either (moved 0 x.kept.imposed) (moved (0 + count x.kept.graph) y.kept.imposed) (n, k) has)) items quiet
+      (λ n k has. go n k (has_either (moved 0 x.kept.imposed) (moved (0 + count x.kept.graph) y.kept.imposed) (n, k) has)) items quiet
     where
       go : (n k : ℕ) → Has (moved 0 x.kept.imposed) (n, k) ⊎ Has (moved (0 + count x.kept.graph) y.kept.imposed) (n, k) → n < (0 + count x.kept.graph) + count y.kept.graph
       go n k (inl p) = pairs_low ((0 + count x.kept.graph) + count y.kept.graph) (omega arith) n k p
@@ -225,14 +225,14 @@ module _ (h : Hierarchy) (program : Program) (law : IsLawful h) (x : ChartItem) 
           let next : ℕ = 0 + count x.kept.graph in
           let facts : List Fact = graph_facts 0 x.kept.graph in
           subst (IsBegun h x) (sym p) (own_one h law x kept es (λ k q. fits k (inr q)) next (derive 0 0 goal ∷ (end_items (end_of program x es) ++ [])) (omega arith)
-            ((omega arith, left), items_end facts next (end_of program x es) (end_fits facts next (omega arith) es)) (tt, quiet_end (end_of program x es)))
+          ((omega arith, left), items_end facts next (end_of program x es) (end_fits facts next (omega arith) es)) (tt, quiet_end (end_of program x es)))
       go (derived goal) left (inr p) = absurd p
       go (cats d) left (inl p) =
           let next : ℕ = (0 + count x.kept.graph) + 1 in
           let facts : List Fact = graph_facts 0 x.kept.graph in
           let node : ℕ = 0 + count x.kept.graph in
           subst (IsBegun h x) (sym p) (own_one h law x kept es (λ k q. fits k (inr q)) next (on node (holds 0 d) ∷ split node (end_of program x es) ∷ []) (omega arith)
-            ((omega arith, (omega arith, left)), ((omega arith, end_fits facts next (omega arith) es), tt)) (tt, (tt, tt)))
+          ((omega arith, (omega arith, left)), ((omega arith, end_fits facts next (omega arith) es), tt)) (tt, (tt, tt)))
       go (cats d) left (inr p) = absurd p
       go (tail n) left has = of (tl_of program.lists x.kept.graph n) refl has
         where
@@ -262,7 +262,7 @@ module _ (h : Hierarchy) (program : Program) (law : IsLawful h) (x : ChartItem) 
           let next : ℕ = (0 + count x.kept.graph) + count y.kept.graph in
           let low = other.root_below in
           subst (IsBegun h x) (sym p) (beside_one h law x kept es (λ k q. fits k (inr q)) y other both (on root (holds 0 d) ∷ (end_items (end_of program x es) ++ [])) (both_fit h law x kept es (λ k q. fits k (inr q)) y other)
-            ((omega arith, (omega arith, fit)), items_end both next (end_of program x es) (end_fits both next (omega arith) es)) (tt, quiet_end (end_of program x es)))
+          ((omega arith, (omega arith, fit)), items_end both next (end_of program x es) (end_fits both next (omega arith) es)) (tt, quiet_end (end_of program x es)))
 
       go : (d : Element) → FitsLeft h (length x.kept.env) (count x.kept.graph) d → Has (daughter_start program x d es y) st → IsBegun h x st
       go (cat d) left (inl p) = cat_is d left p
@@ -279,7 +279,7 @@ module _ (h : Hierarchy) (program : Program) (law : IsLawful h) (x : ChartItem) 
               let low : m < count x.kept.graph = hd_below x.kept.graph kept.structure.formed program.lists n m q in
               let root_low = other.root_below in
               subst (IsBegun h x) (sym p) (beside_one h law x kept es (λ k q. fits k (inr q)) y other facts (end_items (end_of program x es) ++ []) (fits_both h both (Same m root ∷ []) next (both_fit h law x kept es (λ k q. fits k (inr q)) y other) (λ f has. same_fits next m f (omega arith) (omega arith) has))
-                (items_end facts next (end_of program x es) (end_fits facts next (omega arith) es)) (quiet_end (end_of program x es)))
+              (items_end facts next (end_of program x es) (end_fits facts next (omega arith) es)) (quiet_end (end_of program x es)))
             where
               same_fits : (next m : ℕ) (f : Fact) → m < next → root < next → Has (Same m root ∷ []) f → FitsFact h next f
               same_fits next m f one two (inl q) = subst (FitsFact h next) (sym q) (one, two)

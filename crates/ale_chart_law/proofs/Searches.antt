@@ -1,6 +1,6 @@
 -- One search from the start of an item: what always holds of its answers and of what is kept of them, where a model
 -- arrives, and what a structure into which the answer's graph goes satisfies.
-use Rattle.std.proofs.Common.{◌≡◌, ℕ, zero, suc, ◌+◌, ◌<◌, ◌≤◌, true, List, [], ◌∷◌, map, length, ◌⊎◌, inl, inr, refl, sym, ap, ◌∙◌, subst, arith, Option, Some, None}
+use Rattle.std.proofs.Common.{◌≡◌, ℕ, zero, suc, ◌<◌, true, List, [], ◌∷◌, map, length, ◌⊎◌, inl, inr, refl, sym, ap, ◌∙◌, subst, arith, Option, Some, None}
 use Rattle.std.proofs.Math.Path.{fun_ext}
 use Rattle.ale_declared.specs.Lists.{Has}
 use Rattle.ale_hierarchy.specs.Hierarchy.{Hierarchy}
@@ -8,20 +8,19 @@ use Rattle.ale_graph.specs.Structures.{Structure, IsStructure, count}
 use Rattle.ale_graph.specs.Morphisms.{IsMorphismAside}
 use Rattle.ale_graph.specs.Closure.{node_of}
 use Rattle.ale_graph.proofs.Lists.{has_map, none_some, some_one}
-use Rattle.ale_logic.specs.Programs.{Word, Element, cat, cats, derived, sem_head, member, tail, Program}
+use Rattle.ale_logic.specs.Programs.{Element, cat, cats, derived, sem_head, member, tail, Program}
 use Rattle.ale_logic.specs.Models.{MeetsAt, IsModel}
 use Rattle.ale_logic.specs.Descriptions.{IsAssignment}
 use Rattle.ale_logic.specs.Words.{Environment, bound_in, Grammar}
 use Rattle.ale_logic.specs.States.{Piece, env_at, bound, State}
-use Rattle.ale_logic.specs.Spelling.{spell}
 use Rattle.ale_logic.specs.Satisfaction.{Sense, Satisfies}
 use Rattle.ale_logic.specs.WellFormed.{FitsRest, IsState, scope_of, ArePlainItems}
 use Rattle.ale_logic.specs.Steps.{IsGrammar, IsAccounted, IsInFragment}
 use Rattle.ale_logic.specs.Runs.{FreeSense, Returns, IsAnswer, IsInto, AreInFragment, ComesFrom, IsReached, RunLaw, RunLaws}
 use Rattle.ale_engine.specs.Engine.{search}
 use Rattle.ale_logic.specs.Visits.{Answer, visit}
-use Rattle.ale_logic.specs.Parts.{Part, Extract, renamed, placed, kept_answer}
-use Rattle.ale_logic.specs.PartLaws.{IsElementBelow, AreElementsBelow, IsPart, IsKeepable, PartLaw}
+use Rattle.ale_logic.specs.Parts.{Part, Extract, renamed, placed}
+use Rattle.ale_logic.specs.PartLaws.{IsElementBelow, AreElementsBelow, IsPart, PartLaw}
 use Rattle.ale_logic.specs.Lexicons.{wordless}
 use Rattle.ale_logic.specs.Answers.{IsAccepted}
 use Rattle.ale_logic.specs.Starts.{ChartItem}
@@ -135,7 +134,7 @@ module _ (h : Hierarchy) (program : Program) (ok : IsAccepted h program) (runs :
           at : (z : State) → Has (st ∷ []) z → IsAnswer gr z a → (IsInFragment gr z → (s : Structure) (to : ℕ → ℕ) → IsInto gr a s to → (free : FreeSense s a) → Returns gr s z a to free) → Came st a
           at z (inl e) is back =
               came_at x st start a (subst (λ (y : State). IsAnswer gr y a) e is)
-                (subst (λ (y : State). (s : Structure) (to : ℕ → ℕ) → IsInto gr a s to → (free : FreeSense s a) → Returns gr s y a to free) e (back (fragment z e)))
+              (subst (λ (y : State). (s : Structure) (to : ℕ → ℕ) → IsInto gr a s to → (free : FreeSense s a) → Returns gr s y a to free) e (back (fragment z e)))
           at z (inr e) is back = absurd e
 
   module _ (extract : Extract) (part : PartLaw h program extract) where
