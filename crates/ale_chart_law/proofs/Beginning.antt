@@ -21,7 +21,8 @@ use Rattle.ale_logic.specs.Answers.{IsAccepted}
 use Rattle.ale_logic.specs.Starts.{ChartItem, mother_at}
 use Rattle.ale_logic.specs.Charts.{same_word, passive_of, one_node, rules_from, between, initial_items}
 use Rattle.ale_extension_law.proofs.Stays as stays
-use Rattle.ale_chart_law.proofs.Items.{none_bound, FitsLeft, IsThere}
+use Rattle.ale_run_law.proofs.First.{none_bound}
+use Rattle.ale_chart_law.proofs.Items.{FitsLeft, IsThere}
 use Rattle.ale_chart_law.proofs.Extensions.{extends_self, none_added}
 use Rattle.ale_chart_law.proofs.Good.{Pending, Says, IsGood}
 
@@ -168,7 +169,7 @@ module _ (h : Hierarchy) (program : Program) (ok : IsAccepted h program) (words 
   rule_good : (r : Rule) (i k : ℕ) → Has program.rules r → mother_at program.rules (Some k) ≡ Some r.mother → i ≤ length sentence → IsGood h program sentence (rule_item i k r)
   rule_good r i k has number place = record {
     item = record {
-      is = record { structure = one_is h ok.lawful r.slots; root_below = omega arith; env_below = λ v n b. absurd (none_bound r.slots v n b); imposed_below = λ n c p. absurd p };
+      is = record { structure = one_is h ok.lawful r.slots; root_below = omega arith; env_below = λ v n b. absurd (none_bound r.slots 0 v n b); imposed_below = λ n c p. absurd p };
       active = λ e es eq. record {
         mother = r.mother;
         number = number;

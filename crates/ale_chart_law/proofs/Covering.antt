@@ -37,7 +37,8 @@ use Rattle.ale_logic.specs.Starts.{ChartItem, mother_at, at_node, end_of, end_it
 use Rattle.ale_logic.specs.Charts.{passive_of, one_node, ItemTask, item_of, item_task, own_tasks, daughter_tasks}
 use Rattle.ale_logic.specs.LexiconLaws.{AreAllWords}
 use Rattle.ale_logic.specs.ChartLaws.{IsCovered, Replaces}
-use Rattle.ale_chart_law.proofs.Items.{none_bound, IsItem, IsStart, rest_below, hd_below, tl_below, own_is, daughter_is, first_left}
+use Rattle.ale_run_law.proofs.First.{none_bound}
+use Rattle.ale_chart_law.proofs.Items.{IsItem, IsStart, rest_below, hd_below, tl_below, own_is, daughter_is, first_left}
 use Rattle.ale_chart_law.proofs.Maps.{beside, beside_low, beside_high, beside_from, beside_at, holds_both, put_first, put_from}
 use Rattle.ale_chart_law.proofs.Searches.{renamed_same, gr, Arrival, arrival}
 
@@ -567,7 +568,7 @@ module _ (h : Hierarchy) (program : Program) (ok : IsAccepted h program) (runs :
         is = one_goes r.slots c.node low;
         root_to = refl;
         rest = rule_elements (λ k. c.node) r.slots r.elements fits.elements ∙ eq;
-        env = λ v n b. absurd (none_bound r.slots v n b);
+        env = λ v n b. absurd (none_bound r.slots 0 v n b);
       }
 
   list_inside : (m i j : ℕ) → ListSpans h program s sentence m i j → m < count s

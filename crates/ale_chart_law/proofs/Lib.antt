@@ -1,4 +1,3 @@
-pub mod GraphFacts
 pub mod Items
 pub mod Searches
 pub mod Maps

@@ -26,8 +26,9 @@ use Rattle.ale_logic.specs.Answers.{IsAccepted}
 use Rattle.ale_logic.specs.StartLaws.{FitsRemaining}
 use Rattle.ale_logic.specs.Starts.{ChartItem, end_of, end_items, own_start, side_by_side, root_beside, same_as, daughter_start}
 use Rattle.ale_logic.specs.Charts.{item_of}
+use Rattle.ale_run_law.proofs.First.{stands}
 use Rattle.ale_chart_law.proofs.Items.{FitsLeft, IsThere, IsLeft, IsActive, IsItem, IsStart, later_left}
-use Rattle.ale_chart_law.proofs.Maps.{from_zero, self_morphism}
+use Rattle.ale_chart_law.proofs.Maps.{from_zero}
 use Rattle.ale_chart_law.proofs.Searches.{Back, Came, part_of}
 use Rattle.ale_chart_law.proofs.Advancing.{OwnShape, own_shape, PairShape, pair_shape, hd_on, tl_on, own_advances}
 
@@ -202,7 +203,7 @@ module _ (h : Hierarchy) (program : Program) (ok : IsAccepted h program) (puts :
         root_inside = let next = r.is.next in inside x.root (omega arith)
 
         here : Back h program ok runs st a a.closed.graph (λ n. n) (assign_by a (λ n. n) (node_of a.closed x.root))
-        here = r.back a.closed.graph (λ n. n) r.is.structure (self_morphism h a.closed.graph ok.lawful r.is.structure) (assign_by a (λ n. n) (node_of a.closed x.root))
+        here = r.back a.closed.graph (λ n. n) r.is.structure (stands h ok.lawful a.closed.graph r.is.structure) (assign_by a (λ n. n) (node_of a.closed x.root))
             (assign_inside a a.closed.graph (λ n. n) (node_of a.closed x.root) root_inside (λ v n b. inside n (r.is.is.below 0 v n b))) (assign_bound a (λ n. n) (node_of a.closed x.root))
 
         goes : IsMorphismAside h x.kept.graph a.closed.graph (node_of a.closed)

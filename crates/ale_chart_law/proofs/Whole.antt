@@ -24,8 +24,8 @@ use Rattle.ale_logic.specs.Charts.{Keep, keep_all, Chart, items, initial_items, 
 use Rattle.ale_logic.specs.ChartLaws.{IsSoundPassive, IsSoundItem, CoversAll, IsFull, IsSubsumed, ChartLaw, ChartLaws}
 use Rattle.ale_extension_law.proofs.Grows.{grows, sound_model}
 use Rattle.ale_extension_law.proofs.Puts.{put_law}
+use Rattle.ale_run_law.proofs.First.{stands}
 use Rattle.ale_chart_law.proofs.Items.{rest_below}
-use Rattle.ale_chart_law.proofs.Maps.{self_morphism}
 use Rattle.ale_chart_law.proofs.Covering.{IsClosedChart, span_on}
 use Rattle.ale_chart_law.proofs.Good.{Says, IsGood}
 use Rattle.ale_chart_law.proofs.Grown.{items_stay, AreMade, all_made, all_good}
@@ -58,7 +58,7 @@ module _ (runs : RunLaws) (visible : VisibleLaw) (extract : Extract) (h : Hierar
 
   -- and in one of its own structure
   own_spans : (x : ChartItem) → IsGood h program sentence x → x.rest ≡ [] → HasSoundExtension h program x.kept x.kept.graph (λ n. n) (λ t. Spans h program t sentence x.root x.from x.to)
-  own_spans x g none = spans x g none x.kept.graph (λ n. n) g.item.is.structure (self_morphism h x.kept.graph ok.lawful g.item.is.structure)
+  own_spans x g none = spans x g none x.kept.graph (λ n. n) g.item.is.structure (stands h ok.lawful x.kept.graph g.item.is.structure)
 
   sound_passive : (x : ChartItem) → IsGood h program sentence x → x.rest ≡ [] → IsSoundPassive h program sentence x
   sound_passive x g none = record {
