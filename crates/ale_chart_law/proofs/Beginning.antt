@@ -3,6 +3,7 @@ use Rattle.std.proofs.Common.{◌≡◌, ℕ, zero, suc, ◌+◌, ◌<◌, ◌�
 use Rattle.std.proofs.lemmas.Bool.{and_parts, and_from, eqb-true, eq-eqb}
 use Rattle.std.proofs.lemmas.List.{length-replicate}
 use Rattle.ale_declared.specs.Lists.{Has, upto, sum_over}
+use Rattle.ale_declared.proofs.ListLemmas.{Has-filter, filter_has, le-sum_over}
 use Rattle.ale_hierarchy.specs.Hierarchy.{Hierarchy, Above, IsLawful, size_at}
 use Rattle.ale_graph.specs.Structures.{Structure, IsStructure, count, type_of, value_of}
 use Rattle.ale_graph.specs.Morphisms.{IsMorphismAside}
@@ -26,12 +27,6 @@ use Rattle.ale_chart_law.proofs.Items.{FitsLeft, IsThere}
 use Rattle.ale_chart_law.proofs.Extensions.{extends_self, none_added}
 use Rattle.ale_chart_law.proofs.Good.{Pending, Says, IsGood}
 
--- an element's number is at most the sum
-sum_has : {A : Type 0} (f : A → ℕ) (xs : List A) (x : A) → Has xs x → f x ≤ sum_over f xs
-sum_has f [] x h = absurd h
-sum_has f (y ∷ xs) x (inl e) = let same : f x ≡ f y = ap f e in omega arith
-sum_has f (y ∷ xs) x (inr h) = let rest = sum_has f xs x h in omega arith
-
 -- no feature is appropriate to the most general type, as it would lead to ever smaller types
 module _ (h : Hierarchy) (law : IsLawful h) (f r : ℕ) (at : h.approp f 0 ≡ Some r) where
   falls : (n t : ℕ) → t < h.types → h.size t ≤ n → ⊥
@@ -41,7 +36,7 @@ module _ (h : Hierarchy) (law : IsLawful h) (f r : ℕ) (at : h.approp f 0 ≡ S
       go : ((q : ℕ) → q < h.types → h.size q ≤ n → ⊥) → (q : ℕ) × (h.approp f t ≡ Some q) × Above h r q → ⊥
       go later (q, e, up) =
           let inside = law.approp_inside f t q e in
-          let sum = sum_has (λ g. size_at h (h.approp g t)) (upto h.features) f (has_upto h.features f inside.0) in
+          let sum = le-sum_over (λ g. size_at h (h.approp g t)) (upto h.features) f (has_upto h.features f inside.0) in
           let size : size_at h (h.approp f t) ≡ h.size q = ap (size_at h) e in
           let is = law.size_is t low in
           later q inside.1 (omega arith)
@@ -113,25 +108,6 @@ is_same v w e = subst (λ z. same_word v z ≡ true) e (itself v)
     itself : (u : Word) → same_word u u ≡ true
     itself [] = refl
     itself (c ∷ u) = and_from (eqb c c) (same_word u u) (eq-eqb c c refl) (itself u)
-
-pub filter_has : {A : Type 0} (test : A → Bool) (xs : List A) (x : A) → Has (filter test xs) x → Has xs x × (test x ≡ true)
-filter_has test [] x h = absurd h
-filter_has {A = A} test (y ∷ xs) x h = go (filter_has test xs x) (test y) refl h
-  where
-    go : (Has (filter test xs) x → Has xs x × (test x ≡ true)) → (b : Bool) → test y ≡ b → Has (if b then y ∷ filter test xs else filter test xs) x → Has (y ∷ xs) x × (test x ≡ true)
-    go ih true e (inl p) = (inl p, ap test p ∙ e)
-    go ih true e (inr p) = let r = ih p in (inr r.0, r.1)
-    go ih false e p = let r = ih p in (inr r.0, r.1)
-
-pub has_filter : {A : Type 0} (test : A → Bool) (xs : List A) (x : A) → Has xs x → test x ≡ true → Has (filter test xs) x
-has_filter test [] x h t = absurd h
-has_filter {A = A} test (y ∷ xs) x h t = go (λ p. has_filter test xs x p t) (test y) refl h
-  where
-    go : (Has xs x → Has (filter test xs) x) → (b : Bool) → test y ≡ b → (x ≡ y) ⊎ Has xs x → Has (if b then y ∷ filter test xs else filter test xs) x
-    go ih true e (inl p) = inl p
-    go ih true e (inr p) = inr (ih p)
-    go ih false e (inl p) = absurd (let clash : true ≡ false = sym t ∙ ap test p ∙ e in cc)
-    go ih false e (inr p) = ih p
 
 module _ (h : Hierarchy) (program : Program) (ok : IsAccepted h program) (words : Words) (sound_words : AreSoundWords h program words) (sentence : List Word) where
   entry_good : (x : Entry) (i : ℕ) → Has words.entries x → word_at sentence i ≡ Some x.word → suc i ≤ length sentence → IsGood h program sentence (passive_of i (suc i) x)
@@ -260,7 +236,7 @@ module _ (program : Program) (words : Words) where
       let same : place + 0 ≡ place = omega arith in
       subst (λ n. Has (initial_items words program place (v ∷ ws)) (passive_of n (suc n) e)) (sym same)
       (has_left (map (passive_of place (suc place)) (filter (λ (x : Entry). same_word x.word v) words.entries)) (between words program place ++ initial_items words program (suc place) ws) (passive_of place (suc place) e)
-      (in_map (passive_of place (suc place)) (filter (λ (x : Entry). same_word x.word v) words.entries) e (has_filter (λ (x : Entry). same_word x.word v) words.entries e has (is_same e.word v (is ∙ sym (some_one at))))))
+      (in_map (passive_of place (suc place)) (filter (λ (x : Entry). same_word x.word v) words.entries) e (Has-filter (λ (x : Entry). same_word x.word v) words.entries e has (is_same e.word v (is ∙ sym (some_one at))))))
   word_there place (v ∷ ws) (suc i) w at e has is =
       let same : suc place + i ≡ place + suc i = omega arith in
       subst (λ n. Has (initial_items words program place (v ∷ ws)) (passive_of n (suc n) e)) same

@@ -15,15 +15,6 @@ use Rattle.ale_extension_law.proofs.Stays as stays
 pub extends_self : (h : Hierarchy) (s : Structure) → IsStructure h s → Extends h s s
 extends_self h s str = record { smaller = str; larger = str; nodes = ([], sym (append-nil s.nodes)); differ = refl; roots = refl }
 
-pub extends_on : (h : Hierarchy) (s t u : Structure) → Extends h s t → Extends h t u → Extends h s u
-extends_on h s t u one two = record {
-  smaller = one.smaller;
-  larger = two.larger;
-  nodes = (one.nodes.0 ++ two.nodes.0, two.nodes.1 ∙ ap (λ (z : List Node). z ++ two.nodes.0) one.nodes.1 ∙ append_assoc s.nodes one.nodes.0 two.nodes.0);
-  differ = two.differ ∙ one.differ;
-  roots = two.roots ∙ one.roots;
-}
-
 pub morphism_on : (h : Hierarchy) (g s t : Structure) (f : ℕ → ℕ) → Extends h s t → IsMorphismAside h g s f → IsMorphismAside h g t f
 morphism_on h g s t f ext mor = record {
   into = λ n low. stays.within h s t ext (f n) (mor.into n low);

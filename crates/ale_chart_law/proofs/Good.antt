@@ -30,11 +30,12 @@ use Rattle.ale_logic.specs.Charts.{item_of}
 use Rattle.ale_engine.proofs.Lists.{in_map}
 use Rattle.ale_run_law.proofs.Rises.{rise_on}
 use Rattle.ale_extension_law.proofs.Stays as stays
+use Rattle.ale_extension_law.proofs.Through.{extends_through}
 use Rattle.ale_chart_law.proofs.Items.{IsItem, IsStart, own_is, daughter_is, moved_has}
 use Rattle.ale_chart_law.proofs.Searches.{IsFor, Back, Came, part_of, renamed_twice, renamed_same}
 use Rattle.ale_chart_law.proofs.Advancing.{OwnShape, own_shape, PairShape, pair_shape, Advances, own_advances, pair_advances}
 use Rattle.ale_chart_law.proofs.Results.{assign_by, assign_bound, assign_inside, Leads, own_leads, pair_leads, other_down, result_is}
-use Rattle.ale_chart_law.proofs.Extensions.{extends_self, extends_on, morphism_on, meets_on, added_on}
+use Rattle.ale_chart_law.proofs.Extensions.{extends_self, morphism_on, meets_on, added_on}
 
 module _ (h : Hierarchy) (program : Program) (sentence : List Word) where
   -- an active item: whatever covers the elements that remain, with the mother at the root, makes the root span
@@ -108,7 +109,7 @@ module _ (h : Hierarchy) (program : Program) (ok : IsAccepted h program) (runs :
     result_rises : (mother : Description) → mother_at program.rules x.rule ≡ Some mother → ((s : Structure) (f : ℕ → ℕ) → IsStructure h s → IsMorphismAside h a.closed.graph s f → Grounded x e es st a to s f) → (s : Structure) (f : ℕ → ℕ) → IsStructure h s → IsMorphismAside h (extract x.root a).kept.graph s f → Rises h program sentence z s f
     result_rises mother number grounded s f str mor = record {
       larger = g.larger;
-      extends = extends_on h s back.larger g.larger back.extends g.extends;
+      extends = extends_through h s back.larger g.larger back.extends g.extends;
       added = sound.added;
       imposed = sound.imposed;
       says = says (extract x.root a).rest refl;
@@ -257,10 +258,10 @@ module _ (h : Hierarchy) (program : Program) (ok : IsAccepted h program) (runs :
         grounded : (s : Structure) (f : ℕ → ℕ) → IsStructure h s → IsMorphismAside h a.closed.graph s f → Grounded x e es st a y.to s f
         grounded s f str mor = record {
           larger = second.larger;
-          extends = extends_on h s first.larger second.larger first.extends second.extends;
+          extends = extends_through h s first.larger second.larger first.extends second.extends;
           added = added_on h program first.larger second.larger second.extends s first.added second.added;
           imposed = λ n k given. pair n k (has_either (moved 0 x.kept.imposed) (moved (0 + count x.kept.graph) y.kept.imposed) (n, k) (subst (λ w. Has w (n, k)) shape.imposed given));
-          pending = λ u ext. (subst (Says h program sentence x first.larger (λ n. f (node_of a.closed n))) eq first.says) u (extends_on h first.larger second.larger u second.extends ext);
+          pending = λ u ext. (subst (Says h program sentence x first.larger (λ n. f (node_of a.closed n))) eq first.says) u (extends_through h first.larger second.larger u second.extends ext);
           advances = λ u u_str ext assign back. pair_advances h program u u_str back.sense x sentence e es a.state.rest y st (leads.down u back.sense a.state.rest u_str back.satisfies) begins
               (subst (λ w. Spans h program u sentence (w ((0 + count x.kept.graph) + y.root)) y.from y.to) (sym back.node) ((stays.stays_law h program second.larger u ext).spans sentence (f (node_of a.closed ((0 + count x.kept.graph) + y.root))) y.from y.to spans))
               has back.satisfies;

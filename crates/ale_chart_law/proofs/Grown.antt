@@ -4,6 +4,7 @@ use Rattle.std.proofs.Common.{◌≡◌, ℕ, zero, suc, Bool, true, false, eqb,
 use Rattle.std.specs.List.{flat_map}
 use Rattle.std.proofs.lemmas.Bool.{and_parts, eqb-true}
 use Rattle.ale_declared.specs.Lists.{Has}
+use Rattle.ale_declared.proofs.ListLemmas.{Has-flat_map, flat_map_has}
 use Rattle.ale_hierarchy.specs.Hierarchy.{Hierarchy}
 use Rattle.ale_graph.proofs.Lists.{has_left, has_right, has_either, has_map}
 use Rattle.ale_engine.specs.Engine.{search}
@@ -34,18 +35,6 @@ pub data IsDue (extract : Extract) (program : Program) (before : List ChartItem)
   takes_due : (t : ItemTask) (y : ChartItem) → Has before y → Has (daughter_tasks extract program x x.rest y y.rest) t → IsDue extract program before x t
   taken_due : (t : ItemTask) (y : ChartItem) → Has before y → Has (daughter_tasks extract program y y.rest x x.rest) t → IsDue extract program before x t
 
-flat_has : {A B : Type 0} (f : A → List B) (xs : List A) (y : B) → Has (flat_map f xs) y → (x : A) × Has xs x × Has (f x) y
-flat_has f [] y h = absurd h
-flat_has f (x ∷ xs) y h = elim (has_either (f x) (flat_map f xs) y h) [
-  | inl p ↦ (x, inl refl, p)
-  | inr p ↦ let r = flat_has f xs y p in (r.0, inr r.1, r.2)
-]
-
-has_flat : {A B : Type 0} (f : A → List B) (xs : List A) (x : A) (y : B) → Has xs x → Has (f x) y → Has (flat_map f xs) y
-has_flat f [] x y h p = absurd h
-has_flat f (z ∷ xs) x y (inl e) p = has_left (f z) (flat_map f xs) y (subst (λ w. Has (f w) y) e p)
-has_flat f (z ∷ xs) x y (inr h) p = has_right (f z) (flat_map f xs) y (has_flat f xs x y h p)
-
 module _ (extract : Extract) (program : Program) (before : List ChartItem) (x : ChartItem) where
   pub due : (t : ItemTask) → Has (tasks_of extract program before x) t → IsDue extract program before x t
   due t has = go (has_either (own_tasks extract program x x.rest) (flat_map (pair_tasks extract program x) before) t has)
@@ -57,7 +46,7 @@ module _ (extract : Extract) (program : Program) (before : List ChartItem) (x : 
       go : Has (own_tasks extract program x x.rest) t ⊎ Has (flat_map (pair_tasks extract program x) before) t → IsDue extract program before x t
       go (inl p) = own_due t p
       go (inr p) =
-          let r = flat_has (pair_tasks extract program x) before t p in
+          let r = flat_map_has (pair_tasks extract program x) before t p in
           pair r.0 r.1 (has_either (daughter_tasks extract program x x.rest r.0 r.0.rest) (daughter_tasks extract program r.0 r.0.rest x x.rest) t r.2)
 
   pub in_own : (t : ItemTask) → Has (own_tasks extract program x x.rest) t → Has (tasks_of extract program before x) t
@@ -66,12 +55,12 @@ module _ (extract : Extract) (program : Program) (before : List ChartItem) (x : 
   pub in_takes : (t : ItemTask) (y : ChartItem) → Has before y → Has (daughter_tasks extract program x x.rest y y.rest) t → Has (tasks_of extract program before x) t
   in_takes t y at p =
       has_right (own_tasks extract program x x.rest) (flat_map (pair_tasks extract program x) before) t
-      (has_flat (pair_tasks extract program x) before y t at (has_left (daughter_tasks extract program x x.rest y y.rest) (daughter_tasks extract program y y.rest x x.rest) t p))
+      (Has-flat_map (pair_tasks extract program x) before y t at (has_left (daughter_tasks extract program x x.rest y y.rest) (daughter_tasks extract program y y.rest x x.rest) t p))
 
   pub in_taken : (t : ItemTask) (y : ChartItem) → Has before y → Has (daughter_tasks extract program y y.rest x x.rest) t → Has (tasks_of extract program before x) t
   in_taken t y at p =
       has_right (own_tasks extract program x x.rest) (flat_map (pair_tasks extract program x) before) t
-      (has_flat (pair_tasks extract program x) before y t at (has_right (daughter_tasks extract program x x.rest y y.rest) (daughter_tasks extract program y y.rest x x.rest) t p))
+      (Has-flat_map (pair_tasks extract program x) before y t at (has_right (daughter_tasks extract program x x.rest y y.rest) (daughter_tasks extract program y y.rest x x.rest) t p))
 
 -- an item does not take itself
 takes_self : (extract : Extract) (program : Program) (x : ChartItem) (t : ItemTask) → Has (daughter_tasks extract program x x.rest x x.rest) t → ⊥
