@@ -6,38 +6,39 @@ use Rattle.ale_declared.specs.Lists.{Has}
 use Rattle.ale_hierarchy.specs.Hierarchy.{Hierarchy, Above}
 use Rattle.ale_graph.specs.declared.fact.Fact.{Fact}
 use Rattle.ale_graph.specs.declared.fact.Fact.TheVariants.{Same}
-use Rattle.ale_graph.specs.Structures.{Structure, IsStructure, count, type_of, value_of}
+use Rattle.ale_graph.specs.Structures.{Structure, count, type_of, value_of}
 use Rattle.ale_graph.specs.Facts.{Holds, HoldsFact}
 use Rattle.ale_graph.specs.Morphisms.{IsMorphismAside}
-use Rattle.ale_graph.proofs.Lists.{has_left, none_some, some_one}
+use Rattle.ale_graph.proofs.Lists.{none_some, some_one}
 use Rattle.ale_logic.specs.Descriptions.{Description, HoldsAt, IsAssignment}
 use Rattle.ale_logic.specs.Goals.{Goal}
 use Rattle.ale_logic.specs.Programs.{Word, Element, cat, cats, derived, sem_head, member, tail, Rule, ListTypes, Program}
 use Rattle.ale_logic.specs.Fitting.{FitsElement, FitsRule}
 use Rattle.ale_logic.specs.Derivations.{Derivable}
 use Rattle.ale_logic.specs.Models.{IsModel}
-use Rattle.ale_logic.specs.ListNodes.{hd_of, tl_of, IsEmptyList, IsNonEmptyList, IsCell, IsHd, IsTl}
-use Rattle.ale_logic.specs.Words.{Environment, bound_in, Entry, Words, StandsAt}
+use Rattle.ale_logic.specs.ListNodes.{hd_of, tl_of, IsEmptyList, IsNonEmptyList, IsHd, IsTl}
+use Rattle.ale_logic.specs.Words.{bound_in, Entry, Words, StandsAt}
 use Rattle.ale_logic.specs.Spans.{Spans, Covers, ListSpans, word_at}
 use Rattle.ale_logic.specs.Spans.Spans.{by_word, by_empty, by_rule}
 use Rattle.ale_logic.specs.Spans.Covers.{no_more, by_cat, by_head, by_cats, by_goal, by_member, by_tail}
 use Rattle.ale_logic.specs.Spans.ListSpans.{ends, goes_on}
 use Rattle.ale_logic.specs.States.{holds, Item, on, derive, split, bound, State, told, doing, doing_all, grown}
 use Rattle.ale_logic.specs.Putting.{graph_facts, moved}
-use Rattle.ale_logic.specs.Satisfaction.{Sense, Satisfies, HoldItems, HoldsEnd, IsBound}
-use Rattle.ale_logic.specs.Parts.{Part, Extract, renamed}
+use Rattle.ale_logic.specs.Satisfaction.{Sense, Satisfies, HoldItems, HoldsEnd}
+use Rattle.ale_logic.specs.Parts.{Extract, renamed}
 use Rattle.ale_logic.specs.PartLaws.{IsElementBelow, AreElementsBelow, PartLaw}
 use Rattle.ale_logic.specs.PutLaws.{PutLaws}
 use Rattle.ale_logic.specs.Runs.{RunLaws}
 use Rattle.ale_engine.specs.Engine.{search}
 use Rattle.ale_logic.specs.Visits.{Answer, visit}
-use Rattle.ale_logic.specs.Lexicons.{wordless, with_words}
-use Rattle.ale_logic.specs.Answers.{IsAccepted, SubsumesAt}
+use Rattle.ale_logic.specs.Lexicons.{wordless}
+use Rattle.ale_logic.specs.Answers.{IsAccepted}
 use Rattle.ale_logic.specs.Starts.{ChartItem, mother_at, at_node, end_of, end_items, start_item, split_at, own_start, side_by_side, root_beside, same_as, daughter_start}
 use Rattle.ale_logic.specs.Charts.{passive_of, one_node, ItemTask, item_of, item_task, own_tasks, daughter_tasks}
 use Rattle.ale_logic.specs.LexiconLaws.{AreAllWords}
-use Rattle.ale_logic.specs.ChartLaws.{IsCovered, Replaces, CoversAll}
-use Rattle.ale_chart_law.proofs.Items.{none_bound, IsItem, IsActive, IsStart, rest_below, hd_below, tl_below, own_is, daughter_is, first_left}
+use Rattle.ale_logic.specs.ChartLaws.{IsCovered, Replaces}
+use Rattle.ale_run_law.proofs.First.{none_bound}
+use Rattle.ale_chart_law.proofs.Items.{IsItem, IsStart, rest_below, hd_below, tl_below, own_is, daughter_is, first_left}
 use Rattle.ale_chart_law.proofs.Maps.{beside, beside_low, beside_high, beside_from, beside_at, holds_both, put_first, put_from}
 use Rattle.ale_chart_law.proofs.Searches.{renamed_same, gr, Arrival, arrival}
 
@@ -567,7 +568,7 @@ module _ (h : Hierarchy) (program : Program) (ok : IsAccepted h program) (runs :
         is = one_goes r.slots c.node low;
         root_to = refl;
         rest = rule_elements (λ k. c.node) r.slots r.elements fits.elements ∙ eq;
-        env = λ v n b. absurd (none_bound r.slots v n b);
+        env = λ v n b. absurd (none_bound r.slots 0 v n b);
       }
 
   list_inside : (m i j : ℕ) → ListSpans h program s sentence m i j → m < count s

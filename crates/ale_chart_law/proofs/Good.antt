@@ -1,13 +1,13 @@
 -- Soundness: what an item says of where its structure goes, and that what is kept of an answer of its searches says so
 -- again: a passive item spans its places in an extension, an active one does as soon as the elements that remain are covered.
-use Rattle.std.proofs.Common.{◌≡◌, ℕ, ◌+◌, ◌<◌, ◌≤◌, List, [], ◌∷◌, ◌++◌, map, length, ◌⊎◌, inl, inr, refl, sym, ap, ◌∙◌, subst, arith, Option, Some, None}
+use Rattle.std.proofs.Common.{◌≡◌, ℕ, ◌+◌, ◌<◌, ◌≤◌, List, [], ◌∷◌, map, length, ◌⊎◌, inl, inr, refl, sym, ap, ◌∙◌, subst, arith, Some}
 use Rattle.ale_declared.specs.Lists.{Has}
 use Rattle.ale_hierarchy.specs.Hierarchy.{Hierarchy}
 use Rattle.ale_graph.specs.Structures.{Structure, IsStructure, count}
 use Rattle.ale_graph.specs.Morphisms.{IsMorphismAside}
 use Rattle.ale_graph.specs.Extensions.{Extends}
 use Rattle.ale_graph.specs.Closure.{node_of}
-use Rattle.ale_graph.proofs.Lists.{has_left, has_right, has_either}
+use Rattle.ale_graph.proofs.Lists.{has_either}
 use Rattle.ale_logic.specs.Descriptions.{Description, HoldsAt, IsAssignment}
 use Rattle.ale_logic.specs.Programs.{Word, Element, Program}
 use Rattle.ale_logic.specs.Models.{MeetsAt}
@@ -16,8 +16,8 @@ use Rattle.ale_logic.specs.Spans.{Spans, Covers}
 use Rattle.ale_logic.specs.Spans.Covers.{no_more}
 use Rattle.ale_logic.specs.States.{bound, State}
 use Rattle.ale_logic.specs.Putting.{moved}
-use Rattle.ale_logic.specs.Satisfaction.{Sense, Satisfies}
-use Rattle.ale_logic.specs.Parts.{Part, Extract, renamed, kept_answer}
+use Rattle.ale_logic.specs.Satisfaction.{Sense}
+use Rattle.ale_logic.specs.Parts.{Extract, renamed, kept_answer}
 use Rattle.ale_logic.specs.PartLaws.{IsReattached, IsPart, PartLaw}
 use Rattle.ale_logic.specs.PutLaws.{PutLaws}
 use Rattle.ale_logic.specs.Extending.{AddedMeet, IsSoundFor, OwesNothing}
@@ -30,11 +30,12 @@ use Rattle.ale_logic.specs.Charts.{item_of}
 use Rattle.ale_engine.proofs.Lists.{in_map}
 use Rattle.ale_run_law.proofs.Rises.{rise_on}
 use Rattle.ale_extension_law.proofs.Stays as stays
+use Rattle.ale_extension_law.proofs.Through.{extends_through}
 use Rattle.ale_chart_law.proofs.Items.{IsItem, IsStart, own_is, daughter_is, moved_has}
-use Rattle.ale_chart_law.proofs.Searches.{gr, IsFor, Back, Came, part_of, renamed_twice, renamed_same}
+use Rattle.ale_chart_law.proofs.Searches.{IsFor, Back, Came, part_of, renamed_twice, renamed_same}
 use Rattle.ale_chart_law.proofs.Advancing.{OwnShape, own_shape, PairShape, pair_shape, Advances, own_advances, pair_advances}
-use Rattle.ale_chart_law.proofs.Results.{assign_by, assign_bound, assign_inside, Leads, own_leads, pair_leads, own_down, pair_down, other_down, result_is}
-use Rattle.ale_chart_law.proofs.Extensions.{extends_self, extends_on, morphism_on, meets_on, added_on}
+use Rattle.ale_chart_law.proofs.Results.{assign_by, assign_bound, assign_inside, Leads, own_leads, pair_leads, other_down, result_is}
+use Rattle.ale_chart_law.proofs.Extensions.{extends_self, morphism_on, meets_on, added_on}
 
 module _ (h : Hierarchy) (program : Program) (sentence : List Word) where
   -- an active item: whatever covers the elements that remain, with the mother at the root, makes the root span
@@ -108,7 +109,7 @@ module _ (h : Hierarchy) (program : Program) (ok : IsAccepted h program) (runs :
     result_rises : (mother : Description) → mother_at program.rules x.rule ≡ Some mother → ((s : Structure) (f : ℕ → ℕ) → IsStructure h s → IsMorphismAside h a.closed.graph s f → Grounded x e es st a to s f) → (s : Structure) (f : ℕ → ℕ) → IsStructure h s → IsMorphismAside h (extract x.root a).kept.graph s f → Rises h program sentence z s f
     result_rises mother number grounded s f str mor = record {
       larger = g.larger;
-      extends = extends_on h s back.larger g.larger back.extends g.extends;
+      extends = extends_through h s back.larger g.larger back.extends g.extends;
       added = sound.added;
       imposed = sound.imposed;
       says = says (extract x.root a).rest refl;
@@ -257,10 +258,10 @@ module _ (h : Hierarchy) (program : Program) (ok : IsAccepted h program) (runs :
         grounded : (s : Structure) (f : ℕ → ℕ) → IsStructure h s → IsMorphismAside h a.closed.graph s f → Grounded x e es st a y.to s f
         grounded s f str mor = record {
           larger = second.larger;
-          extends = extends_on h s first.larger second.larger first.extends second.extends;
+          extends = extends_through h s first.larger second.larger first.extends second.extends;
           added = added_on h program first.larger second.larger second.extends s first.added second.added;
           imposed = λ n k given. pair n k (has_either (moved 0 x.kept.imposed) (moved (0 + count x.kept.graph) y.kept.imposed) (n, k) (subst (λ w. Has w (n, k)) shape.imposed given));
-          pending = λ u ext. (subst (Says h program sentence x first.larger (λ n. f (node_of a.closed n))) eq first.says) u (extends_on h first.larger second.larger u second.extends ext);
+          pending = λ u ext. (subst (Says h program sentence x first.larger (λ n. f (node_of a.closed n))) eq first.says) u (extends_through h first.larger second.larger u second.extends ext);
           advances = λ u u_str ext assign back. pair_advances h program u u_str back.sense x sentence e es a.state.rest y st (leads.down u back.sense a.state.rest u_str back.satisfies) begins
               (subst (λ w. Spans h program u sentence (w ((0 + count x.kept.graph) + y.root)) y.from y.to) (sym back.node) ((stays.stays_law h program second.larger u ext).spans sentence (f (node_of a.closed ((0 + count x.kept.graph) + y.root))) y.from y.to spans))
               has back.satisfies;

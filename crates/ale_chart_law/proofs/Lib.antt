@@ -4,7 +4,6 @@ pub mod Budgets
 pub mod Covering
 pub mod Extensions
 pub mod Good
-pub mod GraphFacts
 pub mod Grown
 pub mod Items
 pub mod Maps
