@@ -1,6 +1,6 @@
 -- What a budget is to the chart, whatever is kept of answers and of items.
-use Rattle.std.proofs.Common.{◌≡◌, ℕ, zero, suc, ◌+◌, ◌-◌, ◌<◌, ◌≤◌, Bool, true, false, ◌&&◌, List, [], ◌∷◌, ◌++◌, length, length-append, append_assoc, ◌⊎◌, inl, inr, refl, sym, ap, ◌∙◌, subst, arith, if◌then◌else◌}
-use Rattle.std.proofs.lemmas.Bool.{and_parts, and_cases, and_from, cases_Bool}
+use Rattle.std.proofs.Common.{◌≡◌, ℕ, zero, suc, ◌+◌, ◌-◌, ◌<◌, ◌≤◌, Bool, true, false, List, [], ◌∷◌, ◌++◌, length, length-append, append_assoc, ◌⊎◌, inl, inr, refl, sym, ap, ◌∙◌, subst, arith, if◌then◌else◌}
+use Rattle.std.proofs.lemmas.Bool.{and_parts, and_cases, cases_Bool}
 use Rattle.std.proofs.lemmas.List.{append-nil}
 use Rattle.ale_hierarchy.specs.Hierarchy.{Hierarchy}
 use Rattle.ale_engine.specs.EngineLaws.{IsPrefix}
@@ -175,7 +175,7 @@ module _ (extract : Extract) (keep : Keep) (h : Hierarchy) (program : Program) w
       one [] eq = prefix_self (items c)
       one (x ∷ xs) eq =
           subst (λ zs. IsPrefix zs ((c.done ++ x ∷ []) ++ put_kept keep (c.done ++ x ∷ []) xs (results c x).all)) (append_assoc c.done (x ∷ []) xs ∙ ap (λ ys. c.done ++ ys) (sym eq))
-            (prefix_behind (c.done ++ x ∷ []) xs (put_kept keep (c.done ++ x ∷ []) xs (results c x).all) (put_prefix keep (c.done ++ x ∷ []) xs (results c x).all))
+          (prefix_behind (c.done ++ x ∷ []) xs (put_kept keep (c.done ++ x ∷ []) xs (results c x).all) (put_prefix keep (c.done ++ x ∷ []) xs (results c x).all))
 
   -- where no visit is left, no item comes
   spent_items : (n : ℕ) (c : Chart) → c.left ≡ 0 → items (grown n c) ≡ items c
@@ -215,12 +215,12 @@ module _ (extract : Extract) (keep : Keep) (h : Hierarchy) (program : Program) w
               let more = (law c x).further m le in
               let nothing : (first_step c (x ∷ xs)).left ≡ 0 = omega arith in
               subst (λ zs. IsPrefix zs (items (grown n (first_step (with_left c m) (x ∷ xs))))) (sym (spent_items n (first_step c (x ∷ xs)) nothing))
-                (prefix_on (items (first_step c (x ∷ xs))) (items (first_step (with_left c m) (x ∷ xs))) (items (grown n (first_step (with_left c m) (x ∷ xs))))
-                  (prefix_behind (c.done ++ x ∷ []) (put_kept keep (c.done ++ x ∷ []) xs (results c x).all) (put_kept keep (c.done ++ x ∷ []) xs (run_all (visit (wordless h program)) (tasks_of extract program c.done x) m).all)
-                    (subst (λ zs. IsPrefix (put_kept keep (c.done ++ x ∷ []) xs (results c x).all) (put_kept keep (c.done ++ x ∷ []) xs zs)) (sym more.1)
-                      (subst (IsPrefix (put_kept keep (c.done ++ x ∷ []) xs (results c x).all)) (sym (put_append keep (c.done ++ x ∷ []) xs (results c x).all more.0))
-                        (put_prefix keep (c.done ++ x ∷ []) (put_kept keep (c.done ++ x ∷ []) xs (results c x).all) more.0))))
-                  (grow_prefix n (first_step (with_left c m) (x ∷ xs))))
+              (prefix_on (items (first_step c (x ∷ xs))) (items (first_step (with_left c m) (x ∷ xs))) (items (grown n (first_step (with_left c m) (x ∷ xs))))
+              (prefix_behind (c.done ++ x ∷ []) (put_kept keep (c.done ++ x ∷ []) xs (results c x).all) (put_kept keep (c.done ++ x ∷ []) xs (run_all (visit (wordless h program)) (tasks_of extract program c.done x) m).all)
+              (subst (λ zs. IsPrefix (put_kept keep (c.done ++ x ∷ []) xs (results c x).all) (put_kept keep (c.done ++ x ∷ []) xs zs)) (sym more.1)
+              (subst (IsPrefix (put_kept keep (c.done ++ x ∷ []) xs (results c x).all)) (sym (put_append keep (c.done ++ x ∷ []) xs (results c x).all more.0))
+              (put_prefix keep (c.done ++ x ∷ []) (put_kept keep (c.done ++ x ∷ []) xs (results c x).all) more.0))))
+              (grow_prefix n (first_step (with_left c m) (x ∷ xs))))
 
   module _ (words : Words) (sentence : List Word) where
     abbrev size : ℕ
@@ -267,7 +267,7 @@ module _ (extract : Extract) (keep : Keep) (h : Hierarchy) (program : Program) w
       settled = λ fin other le. same_chart budget fin other le;
       further = λ larger le.
           subst (λ (z : Chart). IsPrefix (items z) (items (whole larger))) (with_more budget larger)
-            (subst (λ (z : Chart). IsPrefix (items (grown ((size + budget) + (size + larger)) (begun budget))) (items z)) (with_more_turned budget larger) (goes_further ((size + budget) + (size + larger)) (begun budget) larger le));
+          (subst (λ (z : Chart). IsPrefix (items (grown ((size + budget) + (size + larger)) (begun budget))) (items z)) (with_more_turned budget larger) (goes_further ((size + budget) + (size + larger)) (begun budget) larger le));
     }
       where
         needed : (whole budget).finished ≡ true → (fewer : ℕ) → fewer < budget - (whole budget).left → ((whole fewer).finished ≡ true) ⊎ ((whole fewer).finished ≡ false) → (whole fewer).finished ≡ false
