@@ -1,3 +1,4 @@
+ghost use Rattle.ale_reply_law.specs.Marks.{MarksLaws};
 ghost use Rattle.ale_reply_law.specs.Replies.{ReplyLaws};
 
 use ale_graph::closure_law;
@@ -14,3 +15,10 @@ pub fn reply_law()
     closure_law();
     visible_laws();
 }
+
+/// A reply is marked unfinished exactly where its search, or the lexicon's closure where the command uses it,
+/// needs more visits than its budget, and it never makes more. This holds of every program, also of those with
+/// cut, negation and if-then.
+pub fn marks_law()
+    ensures { MarksLaws }
+{}
