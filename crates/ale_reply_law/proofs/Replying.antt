@@ -27,7 +27,8 @@ use Rattle.ale_logic.specs.Answers.{IsAccepted, SubsumesAt, found_from, Descript
 use Rattle.ale_engine.specs.Engine.{is_nothing}
 use Rattle.ale_logic.specs.Shown.{Shown, words_of, shown_root, shown_slots, shown_kept, mgsat, query, gen, lex, is_passive_over, rec}
 use Rattle.ale_reply_law.specs.Replies.{without_words, IsPartOfSolution, ReplyLaw, StandFor, IsPartOfDerivation, QueryReplyLaw, ReplyLaws}
-use Rattle.ale_chart_law.proofs.Beginning.{same_is, is_same, filter_has, has_filter}
+use Rattle.ale_declared.proofs.ListLemmas.{Has-filter, filter_has}
+use Rattle.ale_chart_law.proofs.Beginning.{same_is, is_same}
 
 pub map_has : {A B : Type 0} (f : A → B) (xs : List A) (x : A) → Has xs x → Has (map f xs) (f x)
 map_has f [] x none = absurd none
@@ -172,7 +173,7 @@ module _ (h : Hierarchy) (program : Program) (accepted : IsAccepted h program) w
           let e = (lexical.complete complete).entries s solves.0.0.model w n solves.0.1 in
           record {
             answer = show e.0;
-            has = map_has show (filter (λ (x : Entry). same_word x.word w) l.words.entries) e.0 (has_filter (λ (x : Entry). same_word x.word w) l.words.entries e.0 e.1 (is_same e.0.word w e.2));
+            has = map_has show (filter (λ (x : Entry). same_word x.word w) l.words.entries) e.0 (Has-filter (λ (x : Entry). same_word x.word w) l.words.entries e.0 e.1 (is_same e.0.word w e.2));
             words = sym solves.1;
             subsumes = one_root h e.0.kept.graph s e.0.root n (record { map = e.3.map; is = e.3.is; root_to = e.3.root_to });
           };
@@ -214,7 +215,7 @@ module _ (h : Hierarchy) (program : Program) (accepted : IsAccepted h program) w
           let r = law.complete (record { keeps = keeps; all_words = lexical.complete both.1; finished = both.0 }) s solves.0.0.model n 0 (length sentence) (omega arith) solves.0.1 in
           record {
             answer = show r.item;
-            has = map_has show (filter (is_passive_over 0 (length sentence)) (items (chart extract keep h program l.words sentence budget))) r.item (has_filter (is_passive_over 0 (length sentence)) (items (chart extract keep h program l.words sentence budget)) r.item r.has (over_from (length sentence) r.item r.from r.to r.passive));
+            has = map_has show (filter (is_passive_over 0 (length sentence)) (items (chart extract keep h program l.words sentence budget))) r.item (Has-filter (is_passive_over 0 (length sentence)) (items (chart extract keep h program l.words sentence budget)) r.item r.has (over_from (length sentence) r.item r.from r.to r.passive));
             words = sym solves.1;
             subsumes = one_root h r.item.kept.graph s r.item.root n r.subsumes;
           };
