@@ -1,12 +1,10 @@
 -- What the items of a chart are, and that each start of an item's own search, and of one with another item, is a state.
-use Rattle.std.proofs.Common.{◌≡◌, ℕ, zero, suc, ◌+◌, ◌<◌, ◌≤◌, IsTrue, List, [], ◌∷◌, ◌++◌, length, ◌⊎◌, inl, inr, refl, sym, ap, ◌∙◌, subst, arith, replicate, Option, Some, None}
-use Rattle.std.proofs.lemmas.Bool.{cases_lt}
-use Rattle.std.proofs.lemmas.List.{get_or-replicate, get_or_past, length-replicate}
+use Rattle.std.proofs.Common.{◌≡◌, ℕ, zero, suc, ◌+◌, ◌<◌, ◌≤◌, IsTrue, List, [], ◌∷◌, ◌++◌, length, ◌⊎◌, inl, inr, refl, sym, ap, subst, arith, Option, Some, None}
 use Rattle.ale_declared.specs.Lists.{Has}
 use Rattle.ale_hierarchy.specs.Hierarchy.{Hierarchy, IsLawful}
 use Rattle.ale_graph.specs.declared.fact.Fact.{Fact}
 use Rattle.ale_graph.specs.declared.fact.Fact.TheVariants.{Same}
-use Rattle.ale_graph.specs.Structures.{Structure, IsStructure, count, value_of, is_formed}
+use Rattle.ale_graph.specs.Structures.{Structure, count, is_formed}
 use Rattle.ale_graph.specs.Facts.{Fits, FitsFact}
 use Rattle.ale_graph.proofs.Lists.{has_either, has_map, some_one, none_some}
 use Rattle.ale_graph.proofs.Structures.{value_inside}
@@ -16,12 +14,12 @@ use Rattle.ale_logic.specs.Programs.{Element, cat, cats, derived, sem_head, memb
 use Rattle.ale_logic.specs.Fitting.{IsPlainElement}
 use Rattle.ale_logic.specs.ListNodes.{hd_of, tl_of}
 use Rattle.ale_logic.specs.Words.{Environment, bound_in, Kept, IsKept}
-use Rattle.ale_logic.specs.States.{holds, Item, on, derive, split, bound, State, told, doing}
+use Rattle.ale_logic.specs.States.{holds, Item, on, derive, split, State, doing}
 use Rattle.ale_logic.specs.Putting.{graph_facts, moved}
-use Rattle.ale_logic.specs.Starts.{ChartItem, mother_at, at_node, end_of, end_items, start_item, split_at, own_start, side_by_side, root_beside, same_as, daughter_start}
+use Rattle.ale_logic.specs.Starts.{ChartItem, mother_at, at_node, end_of, end_items, split_at, own_start, side_by_side, root_beside, same_as, daughter_start}
 use Rattle.ale_logic.specs.WellFormed.{Scope, FitsEnd, FitItems, IsBelow, FitsRest, IsState, ArePlainItems, AreQuietItems}
 use Rattle.ale_logic.specs.PartLaws.{AreElementsBelow, IsElementBelow}
-use Rattle.ale_chart_law.proofs.GraphFacts.{graph_fits}
+use Rattle.ale_step_law.proofs.PutFits.{graph_fits}
 
 -- an element that remains, with so many slots, and in a structure with so many nodes
 abbrev pub FitsLeft : Hierarchy → ℕ → ℕ → Element → Type 0
@@ -108,16 +106,6 @@ pub one_below : (next : ℕ) (env : Environment) → ((v n : ℕ) → bound_in e
 one_below next env low zero v n e = low v n e
 one_below next env low (suc k) v n e = absurd (none_some e)
 
--- nothing is bound in an environment without nodes
-pub none_bound : (slots v n : ℕ) → bound_in (replicate slots None) v ≡ Some n → ⊥
-none_bound slots v n e = go (cases_lt v slots)
-  where
-    go : (v < slots) ⊎ (slots ≤ v) → ⊥
-    go (inl low) = none_some (sym (get_or-replicate slots v None None low) ∙ e)
-    go (inr far) =
-        let past : length (replicate {A = Option ℕ} slots None) ≤ v = let l = length-replicate {A = Option ℕ} slots None in omega arith in
-        none_some (sym (get_or_past (replicate slots None) v None past) ∙ e)
-
 -- the values of a list node are nodes
 pub hd_below : (s : Structure) → IsTrue (is_formed s) → (o : Option ListTypes) (n m : ℕ) → hd_of o s n ≡ Some m → m < count s
 hd_below s formed None n m e = absurd (none_some e)
@@ -172,20 +160,20 @@ module _ (h : Hierarchy) (law : IsLawful h) (x : ChartItem) (kept : IsKept h x.k
   pub own_one : (next : ℕ) (agenda : List Item) → count x.kept.graph ≤ next → FitItems h (scope_in (graph_facts 0 x.kept.graph) next) agenda → AreQuietItems agenda →
       IsBegun h x (record { facts = graph_facts 0 x.kept.graph; next = next; imposed = moved 0 x.kept.imposed; envs = x.kept.env ∷ []; phrases = 0; said = []; choices = []; agenda = agenda; rest = es })
   own_one next agenda far items quiet =
-      starts (graph_facts 0 x.kept.graph) next (moved 0 x.kept.imposed) agenda far (graph_fits h 0 next x.kept.graph law kept.structure (omega arith)) (pairs_low next far) items quiet
+      starts (graph_facts 0 x.kept.graph) next (moved 0 x.kept.imposed) agenda far (graph_fits h law x.kept.graph kept.structure 0 next (omega arith)) (pairs_low next far) items quiet
 
   -- the start of a search with another item
   pub both_fit : (y : ChartItem) → IsKept h y.kept y.root → Fits h (graph_facts 0 x.kept.graph ++ graph_facts (0 + count x.kept.graph) y.kept.graph) ((0 + count x.kept.graph) + count y.kept.graph)
   both_fit y other =
       let next : ℕ = (0 + count x.kept.graph) + count y.kept.graph in
-      fits_both h (graph_facts 0 x.kept.graph) (graph_facts (0 + count x.kept.graph) y.kept.graph) next (graph_fits h 0 next x.kept.graph law kept.structure (omega arith)) (graph_fits h (0 + count x.kept.graph) next y.kept.graph law other.structure (omega arith))
+      fits_both h (graph_facts 0 x.kept.graph) (graph_facts (0 + count x.kept.graph) y.kept.graph) next (graph_fits h law x.kept.graph kept.structure 0 next (omega arith)) (graph_fits h law y.kept.graph other.structure (0 + count x.kept.graph) next (omega arith))
 
   pub beside_one : (y : ChartItem) → IsKept h y.kept y.root → (facts : List Fact) (agenda : List Item) → Fits h facts ((0 + count x.kept.graph) + count y.kept.graph) →
       FitItems h (scope_in facts ((0 + count x.kept.graph) + count y.kept.graph)) agenda → AreQuietItems agenda →
       IsBegun h x (record { facts = facts; next = (0 + count x.kept.graph) + count y.kept.graph; imposed = moved 0 x.kept.imposed ++ moved (0 + count x.kept.graph) y.kept.imposed; envs = x.kept.env ∷ []; phrases = 0; said = []; choices = []; agenda = agenda; rest = es })
   beside_one y other facts agenda facts_fit items quiet =
       starts facts ((0 + count x.kept.graph) + count y.kept.graph) (moved 0 x.kept.imposed ++ moved (0 + count x.kept.graph) y.kept.imposed) agenda (omega arith) facts_fit
-        (λ n k has. go n k (has_either (moved 0 x.kept.imposed) (moved (0 + count x.kept.graph) y.kept.imposed) (n, k) has)) items quiet
+      (λ n k has. go n k (has_either (moved 0 x.kept.imposed) (moved (0 + count x.kept.graph) y.kept.imposed) (n, k) has)) items quiet
     where
       go : (n k : ℕ) → Has (moved 0 x.kept.imposed) (n, k) ⊎ Has (moved (0 + count x.kept.graph) y.kept.imposed) (n, k) → n < (0 + count x.kept.graph) + count y.kept.graph
       go n k (inl p) = pairs_low ((0 + count x.kept.graph) + count y.kept.graph) (omega arith) n k p
@@ -225,14 +213,14 @@ module _ (h : Hierarchy) (program : Program) (law : IsLawful h) (x : ChartItem) 
           let next : ℕ = 0 + count x.kept.graph in
           let facts : List Fact = graph_facts 0 x.kept.graph in
           subst (IsBegun h x) (sym p) (own_one h law x kept es (λ k q. fits k (inr q)) next (derive 0 0 goal ∷ (end_items (end_of program x es) ++ [])) (omega arith)
-            ((omega arith, left), items_end facts next (end_of program x es) (end_fits facts next (omega arith) es)) (tt, quiet_end (end_of program x es)))
+          ((omega arith, left), items_end facts next (end_of program x es) (end_fits facts next (omega arith) es)) (tt, quiet_end (end_of program x es)))
       go (derived goal) left (inr p) = absurd p
       go (cats d) left (inl p) =
           let next : ℕ = (0 + count x.kept.graph) + 1 in
           let facts : List Fact = graph_facts 0 x.kept.graph in
           let node : ℕ = 0 + count x.kept.graph in
           subst (IsBegun h x) (sym p) (own_one h law x kept es (λ k q. fits k (inr q)) next (on node (holds 0 d) ∷ split node (end_of program x es) ∷ []) (omega arith)
-            ((omega arith, (omega arith, left)), ((omega arith, end_fits facts next (omega arith) es), tt)) (tt, (tt, tt)))
+          ((omega arith, (omega arith, left)), ((omega arith, end_fits facts next (omega arith) es), tt)) (tt, (tt, tt)))
       go (cats d) left (inr p) = absurd p
       go (tail n) left has = of (tl_of program.lists x.kept.graph n) refl has
         where
@@ -262,7 +250,7 @@ module _ (h : Hierarchy) (program : Program) (law : IsLawful h) (x : ChartItem) 
           let next : ℕ = (0 + count x.kept.graph) + count y.kept.graph in
           let low = other.root_below in
           subst (IsBegun h x) (sym p) (beside_one h law x kept es (λ k q. fits k (inr q)) y other both (on root (holds 0 d) ∷ (end_items (end_of program x es) ++ [])) (both_fit h law x kept es (λ k q. fits k (inr q)) y other)
-            ((omega arith, (omega arith, fit)), items_end both next (end_of program x es) (end_fits both next (omega arith) es)) (tt, quiet_end (end_of program x es)))
+          ((omega arith, (omega arith, fit)), items_end both next (end_of program x es) (end_fits both next (omega arith) es)) (tt, quiet_end (end_of program x es)))
 
       go : (d : Element) → FitsLeft h (length x.kept.env) (count x.kept.graph) d → Has (daughter_start program x d es y) st → IsBegun h x st
       go (cat d) left (inl p) = cat_is d left p
@@ -279,7 +267,7 @@ module _ (h : Hierarchy) (program : Program) (law : IsLawful h) (x : ChartItem) 
               let low : m < count x.kept.graph = hd_below x.kept.graph kept.structure.formed program.lists n m q in
               let root_low = other.root_below in
               subst (IsBegun h x) (sym p) (beside_one h law x kept es (λ k q. fits k (inr q)) y other facts (end_items (end_of program x es) ++ []) (fits_both h both (Same m root ∷ []) next (both_fit h law x kept es (λ k q. fits k (inr q)) y other) (λ f has. same_fits next m f (omega arith) (omega arith) has))
-                (items_end facts next (end_of program x es) (end_fits facts next (omega arith) es)) (quiet_end (end_of program x es)))
+              (items_end facts next (end_of program x es) (end_fits facts next (omega arith) es)) (quiet_end (end_of program x es)))
             where
               same_fits : (next m : ℕ) (f : Fact) → m < next → root < next → Has (Same m root ∷ []) f → FitsFact h next f
               same_fits next m f one two (inl q) = subst (FitsFact h next) (sym q) (one, two)

@@ -1,5 +1,5 @@
 -- That each start of a search is a state, in which words are sought or found once.
-use Rattle.std.proofs.Common.{◌≡◌, ℕ, ◌+◌, ◌<◌, List, [], ◌∷◌, length, replicate, inl, inr, refl, sym, subst, arith, Option, Some, None}
+use Rattle.std.proofs.Common.{◌≡◌, ℕ, ◌+◌, List, [], ◌∷◌, length, replicate, sym, subst, arith, Option, Some, None}
 use Rattle.std.proofs.lemmas.List.{length-replicate}
 use Rattle.ale_declared.specs.Lists.{Has}
 use Rattle.ale_hierarchy.specs.Hierarchy.{Hierarchy, IsLawful}
@@ -13,11 +13,10 @@ use Rattle.ale_logic.specs.States.{holds, on, derive, State, doing, grown}
 use Rattle.ale_logic.specs.GoalKids.{doing_goal}
 use Rattle.ale_logic.specs.Putting.{putting}
 use Rattle.ale_logic.specs.PartLaws.{IsElementBelow}
-use Rattle.ale_logic.specs.WellFormed.{AreQuietItems}
 use Rattle.ale_logic.specs.Starts.{nothing, start_lex, ChartItem, own_start, daughter_start}
-use Rattle.ale_logic.specs.StartLaws.{IsStart, IsQuietStart, FitsRemaining, IsActive, IsItem, StartLaw, StartLaws}
-use Rattle.ale_run_law.proofs.First.{description_starts, goal_starts, generation_starts}
-use Rattle.ale_chart_law.proofs.Items.{FitsLeft, IsBegun, none_bound, own_one, own_begun, daughter_begun}
+use Rattle.ale_logic.specs.StartLaws.{IsQuietStart, FitsRemaining, IsActive, IsItem, StartLaws}
+use Rattle.ale_run_law.proofs.First.{none_bound, description_starts, goal_starts, generation_starts}
+use Rattle.ale_chart_law.proofs.Items.{FitsLeft, IsBegun, own_one, own_begun, daughter_begun}
 
 -- no phrase is there yet, so each is sought or found once
 quiet_start : (h : Hierarchy) (x : ChartItem) (st : State) → IsBegun h x st → IsQuietStart h st
@@ -43,7 +42,7 @@ module _ (h : Hierarchy) (program : Program) (law : IsLawful h) (fits : FitsProg
       slots = sym (length-replicate {A = Option ℕ} rule.slots None)
 
       kept : IsKept h (record { graph = x.kept.graph; imposed = x.kept.imposed; env = replicate rule.slots None }) x.root
-      kept = record { structure = is.structure; root_below = is.root_below; env_below = λ v n b. absurd (none_bound rule.slots v n b); imposed_below = is.imposed_below }
+      kept = record { structure = is.structure; root_below = is.root_below; env_below = λ v n b. absurd (none_bound rule.slots 0 v n b); imposed_below = is.imposed_below }
 
       input : FitsDescription h (length (replicate {A = Option ℕ} rule.slots None)) rule.input
       input = subst (λ n. FitsDescription h n rule.input) slots fit.input
@@ -56,13 +55,13 @@ module _ (h : Hierarchy) (program : Program) (law : IsLawful h) (fits : FitsProg
       go None fit_goal =
           let low = is.root_below in
           quiet_start h item (doing (on x.root (holds 0 rule.input)) (doing (on (0 + count x.kept.graph) (holds 0 rule.output)) (doing_goal 0 0 None (grown 1 (putting x.kept (nothing (replicate rule.slots None) []))))))
-            (own_one h law item kept [] (λ d p. absurd p) ((0 + count x.kept.graph) + 1) (on x.root (holds 0 rule.input) ∷ on (0 + count x.kept.graph) (holds 0 rule.output) ∷ []) (omega arith)
-              ((omega arith, (omega arith, input)), ((omega arith, (omega arith, output)), tt)) (tt, (tt, tt)))
+          (own_one h law item kept [] (λ d p. absurd p) ((0 + count x.kept.graph) + 1) (on x.root (holds 0 rule.input) ∷ on (0 + count x.kept.graph) (holds 0 rule.output) ∷ []) (omega arith)
+          ((omega arith, (omega arith, input)), ((omega arith, (omega arith, output)), tt)) (tt, (tt, tt)))
       go (Some g) fit_goal =
           let low = is.root_below in
           quiet_start h item (doing (on x.root (holds 0 rule.input)) (doing (on (0 + count x.kept.graph) (holds 0 rule.output)) (doing_goal 0 0 (Some g) (grown 1 (putting x.kept (nothing (replicate rule.slots None) []))))))
-            (own_one h law item kept [] (λ d p. absurd p) ((0 + count x.kept.graph) + 1) (on x.root (holds 0 rule.input) ∷ on (0 + count x.kept.graph) (holds 0 rule.output) ∷ derive 0 0 g ∷ []) (omega arith)
-              ((omega arith, (omega arith, input)), ((omega arith, (omega arith, output)), ((omega arith, subst (λ n. FitsGoal h n g) slots fit_goal), tt))) (tt, (tt, (tt, tt))))
+          (own_one h law item kept [] (λ d p. absurd p) ((0 + count x.kept.graph) + 1) (on x.root (holds 0 rule.input) ∷ on (0 + count x.kept.graph) (holds 0 rule.output) ∷ derive 0 0 g ∷ []) (omega arith)
+          ((omega arith, (omega arith, input)), ((omega arith, (omega arith, output)), ((omega arith, subst (λ n. FitsGoal h n g) slots fit_goal), tt))) (tt, (tt, (tt, tt))))
 
   module _ (x : ChartItem) (e : Element) (es : List Element) (it : IsItem h program x) (eq : x.rest ≡ e ∷ es) where
     active : IsActive h program x
