@@ -1,20 +1,18 @@
 -- What the starts of an item hold of where they go: the structures of the items, what was imposed, and that what covers
 -- the elements that remain in the end covers those of the item.
-use Rattle.std.proofs.Common.{◌≡◌, ℕ, zero, suc, ◌+◌, ◌<◌, ◌≤◌, List, [], ◌∷◌, ◌++◌, map, ◌⊎◌, inl, inr, refl, sym, ap, ◌∙◌, subst, arith, Option, Some, None}
+use Rattle.std.proofs.Common.{◌≡◌, ℕ, ◌+◌, ◌<◌, ◌≤◌, List, [], ◌∷◌, ◌++◌, map, ◌⊎◌, inl, inr, refl, sym, ap, ◌∙◌, subst, arith, Option, Some, None}
 use Rattle.std.proofs.lemmas.List.{append-nil}
 use Rattle.ale_declared.specs.Lists.{Has}
 use Rattle.ale_hierarchy.specs.Hierarchy.{Hierarchy}
 use Rattle.ale_graph.specs.declared.fact.Fact.{Fact}
 use Rattle.ale_graph.specs.declared.fact.Fact.TheVariants.{Same}
 use Rattle.ale_graph.specs.Structures.{Structure, IsStructure, count, value_of}
-use Rattle.ale_graph.specs.Facts.{Holds}
 use Rattle.ale_graph.specs.Morphisms.{IsMorphismAside}
-use Rattle.ale_graph.proofs.Lists.{has_left, has_right, none_some, some_one}
+use Rattle.ale_graph.proofs.Lists.{has_right, none_some, some_one}
 use Rattle.ale_logic.specs.Derivations.{Derivable}
 use Rattle.ale_logic.specs.Descriptions.{Description, HoldsAt}
-use Rattle.ale_logic.specs.Goals.{Goal}
 use Rattle.ale_logic.specs.Programs.{Word, Element, cat, cats, derived, sem_head, member, tail, ListTypes, Program}
-use Rattle.ale_logic.specs.ListNodes.{hd_of, tl_of, IsEmptyList, IsNonEmptyList, IsHd, IsTl}
+use Rattle.ale_logic.specs.ListNodes.{hd_of, tl_of, IsNonEmptyList, IsHd, IsTl}
 use Rattle.ale_logic.specs.Spans.{Spans, Covers, ListSpans}
 use Rattle.ale_logic.specs.Spans.Covers.{no_more, by_cat, by_head, by_cats, by_goal, by_member, by_tail}
 use Rattle.ale_logic.specs.Spans.ListSpans.{ends, goes_on}
@@ -22,11 +20,9 @@ use Rattle.ale_logic.specs.States.{holds, on, split, State, doing, grown}
 use Rattle.ale_logic.specs.Putting.{graph_facts, moved}
 use Rattle.ale_logic.specs.Satisfaction.{Sense, Satisfies, HoldItems, HoldsEnd}
 use Rattle.ale_logic.specs.Parts.{renamed}
-use Rattle.ale_logic.specs.PutLaws.{PutLaws}
 use Rattle.ale_logic.specs.Lexicons.{wordless}
 use Rattle.ale_logic.specs.Starts.{ChartItem, mother_at, at_node, end_of, end_items, start_item, split_at, own_start, side_by_side, root_beside, same_as, daughter_start}
 use Rattle.ale_chart_law.proofs.Items.{tl_below}
-use Rattle.ale_chart_law.proofs.Maps.{from_zero}
 
 -- the start of an item's own search has its facts and what was imposed in it
 pub record OwnShape (x : ChartItem) (st : State) : Type 0 where
@@ -271,7 +267,7 @@ module _ (h : Hierarchy) (program : Program) (u : Structure) (str : IsStructure 
           of (Some m) q (inl p) =
               let w = subst (λ w. Satisfies (wordless h program) u z w remain) p sat in
               let same : z.node m ≡ z.node ((0 + count x.kept.graph) + y.root) =
-                  w.fulfils.holds (Same m (root_beside x es y)) (has_right (graph_facts 0 x.kept.graph ++ graph_facts (0 + count x.kept.graph) y.kept.graph) (Same m (root_beside x es y) ∷ []) (Same m (root_beside x es y)) (inl refl)) in
+              w.fulfils.holds (Same m (root_beside x es y)) (has_right (graph_facts 0 x.kept.graph ++ graph_facts (0 + count x.kept.graph) y.kept.graph) (Same m (root_beside x es y) ∷ []) (Same m (root_beside x es y)) (inl refl)) in
               let r = ended w.items in
               record {
                 rests = inl r.0;

@@ -1,36 +1,32 @@
 -- The items with which a chart begins: each is good, and all that there are to be are there.
-use Rattle.std.proofs.Common.{◌≡◌, ℕ, zero, suc, ◌+◌, ◌<◌, ◌≤◌, Bool, true, false, ◌&&◌, eqb, IsTrue, List, [], ◌∷◌, ◌++◌, map, length, filter, get_or, replicate, ◌⊎◌, inl, inr, refl, sym, ap, ◌∙◌, subst, arith, Option, Some, None, if◌then◌else◌}
+use Rattle.std.proofs.Common.{◌≡◌, ℕ, zero, suc, ◌+◌, ◌<◌, ◌≤◌, true, eqb, List, [], ◌∷◌, ◌++◌, map, length, filter, get_or, replicate, ◌⊎◌, inl, inr, refl, sym, ap, ◌∙◌, subst, arith, Option, Some, None}
 use Rattle.std.proofs.lemmas.Bool.{and_parts, and_from, eqb-true, eq-eqb}
-use Rattle.std.proofs.lemmas.List.{length-replicate, length-map}
-use Rattle.ale_declared.specs.Lists.{Has, upto, sum_over}
+use Rattle.std.proofs.lemmas.List.{length-replicate}
+use Rattle.ale_declared.specs.Lists.{Has, upto}
+use Rattle.ale_declared.proofs.ListLemmas.{Has-filter, filter_has, le-sum_over}
 use Rattle.ale_hierarchy.specs.Hierarchy.{Hierarchy, Above, IsLawful, size_at}
 use Rattle.ale_graph.specs.Structures.{Structure, IsStructure, count, type_of, value_of}
 use Rattle.ale_graph.specs.Morphisms.{IsMorphismAside}
 use Rattle.ale_graph.specs.Extensions.{Extends}
 use Rattle.ale_graph.proofs.Lists.{has_left, has_right, has_either, has_map, has_upto, none_some, some_one}
 use Rattle.ale_engine.proofs.Lists.{in_map}
-use Rattle.ale_logic.specs.Descriptions.{Description, HoldsAt, FitsDescription, IsAssignment}
+use Rattle.ale_logic.specs.Descriptions.{HoldsAt, FitsDescription}
 use Rattle.ale_logic.specs.Programs.{Word, Element, cat, cats, derived, sem_head, member, tail, Rule, Program}
 use Rattle.ale_logic.specs.Fitting.{FitsElement, FitsRule}
-use Rattle.ale_logic.specs.Words.{bound_in, Entry, Words}
-use Rattle.ale_logic.specs.Spans.{Spans, Covers, word_at}
+use Rattle.ale_logic.specs.Words.{Entry, Words}
+use Rattle.ale_logic.specs.Spans.{Covers, word_at}
 use Rattle.ale_logic.specs.Spans.Spans.{by_word, by_empty, by_rule}
 use Rattle.ale_logic.specs.Parts.{renamed}
-use Rattle.ale_logic.specs.Extending.{HasSoundExtension}
 use Rattle.ale_logic.specs.LexiconLaws.{AreSoundWords, IsSoundEntry, IsSoundEmpty}
 use Rattle.ale_logic.specs.Answers.{IsAccepted}
 use Rattle.ale_logic.specs.Starts.{ChartItem, mother_at}
 use Rattle.ale_logic.specs.Charts.{same_word, passive_of, one_node, rules_from, between, initial_items}
 use Rattle.ale_extension_law.proofs.Stays as stays
-use Rattle.ale_chart_law.proofs.Items.{none_bound, FitsLeft, IsThere, IsLeft, IsActive, IsItem}
+use Rattle.ale_run_law.proofs.First.{none_bound}
+use Rattle.ale_chart_law.proofs.Items.{FitsLeft, IsThere}
+use Rattle.ale_chart_law.proofs.Searches.{rule_renamed}
 use Rattle.ale_chart_law.proofs.Extensions.{extends_self, none_added}
-use Rattle.ale_chart_law.proofs.Good.{Rises, Pending, Says, IsGood}
-
--- an element's number is at most the sum
-sum_has : {A : Type 0} (f : A → ℕ) (xs : List A) (x : A) → Has xs x → f x ≤ sum_over f xs
-sum_has f [] x h = absurd h
-sum_has f (y ∷ xs) x (inl e) = let same : f x ≡ f y = ap f e in omega arith
-sum_has f (y ∷ xs) x (inr h) = let rest = sum_has f xs x h in omega arith
+use Rattle.ale_chart_law.proofs.Good.{Pending, Says, IsGood}
 
 -- no feature is appropriate to the most general type, as it would lead to ever smaller types
 module _ (h : Hierarchy) (law : IsLawful h) (f r : ℕ) (at : h.approp f 0 ≡ Some r) where
@@ -41,7 +37,7 @@ module _ (h : Hierarchy) (law : IsLawful h) (f r : ℕ) (at : h.approp f 0 ≡ S
       go : ((q : ℕ) → q < h.types → h.size q ≤ n → ⊥) → (q : ℕ) × (h.approp f t ≡ Some q) × Above h r q → ⊥
       go later (q, e, up) =
           let inside = law.approp_inside f t q e in
-          let sum = sum_has (λ g. size_at h (h.approp g t)) (upto h.features) f (has_upto h.features f inside.0) in
+          let sum = le-sum_over (λ g. size_at h (h.approp g t)) (upto h.features) f (has_upto h.features f inside.0) in
           let size : size_at h (h.approp f t) ≡ h.size q = ap (size_at h) e in
           let is = law.size_is t low in
           later q inside.1 (omega arith)
@@ -69,19 +65,6 @@ one_is h law slots = record {
     only : (n f m : ℕ) → value_of (one_node slots).graph n f ≡ Some m → ⊥
     only zero f m e = none_some e
     only (suc n) f m e = none_some e
-
--- a rule's elements name no nodes
-pub rule_renamed : (h : Hierarchy) (f : ℕ → ℕ) (slots : ℕ) (es : List Element) → ((e : Element) → Has es e → FitsElement h slots e) → map (renamed f) es ≡ es
-rule_renamed h f slots [] fit = refl
-rule_renamed h f slots (e ∷ es) fit = go e (fit e (inl refl)) (rule_renamed h f slots es (λ d has. fit d (inr has)))
-  where
-    go : (d : Element) → FitsElement h slots d → map (renamed f) es ≡ es → renamed f d ∷ map (renamed f) es ≡ d ∷ es
-    go (cat x) b ih = ap (λ z. cat x ∷ z) ih
-    go (cats x) b ih = ap (λ z. cats x ∷ z) ih
-    go (sem_head x) b ih = ap (λ z. sem_head x ∷ z) ih
-    go (derived x) b ih = ap (λ z. derived x ∷ z) ih
-    go (member n) b ih = absurd b
-    go (tail n) b ih = absurd b
 
 element_left : (h : Hierarchy) (program : Program) (slots n : ℕ) (e : Element) → FitsElement h slots e → FitsLeft h slots n e
 element_left h program slots n (cat d) fit = fit
@@ -113,25 +96,6 @@ is_same v w e = subst (λ z. same_word v z ≡ true) e (itself v)
     itself : (u : Word) → same_word u u ≡ true
     itself [] = refl
     itself (c ∷ u) = and_from (eqb c c) (same_word u u) (eq-eqb c c refl) (itself u)
-
-pub filter_has : {A : Type 0} (test : A → Bool) (xs : List A) (x : A) → Has (filter test xs) x → Has xs x × (test x ≡ true)
-filter_has test [] x h = absurd h
-filter_has {A = A} test (y ∷ xs) x h = go (filter_has test xs x) (test y) refl h
-  where
-    go : (Has (filter test xs) x → Has xs x × (test x ≡ true)) → (b : Bool) → test y ≡ b → Has (if b then y ∷ filter test xs else filter test xs) x → Has (y ∷ xs) x × (test x ≡ true)
-    go ih true e (inl p) = (inl p, ap test p ∙ e)
-    go ih true e (inr p) = let r = ih p in (inr r.0, r.1)
-    go ih false e p = let r = ih p in (inr r.0, r.1)
-
-pub has_filter : {A : Type 0} (test : A → Bool) (xs : List A) (x : A) → Has xs x → test x ≡ true → Has (filter test xs) x
-has_filter test [] x h t = absurd h
-has_filter {A = A} test (y ∷ xs) x h t = go (λ p. has_filter test xs x p t) (test y) refl h
-  where
-    go : (Has xs x → Has (filter test xs) x) → (b : Bool) → test y ≡ b → (x ≡ y) ⊎ Has xs x → Has (if b then y ∷ filter test xs else filter test xs) x
-    go ih true e (inl p) = inl p
-    go ih true e (inr p) = inr (ih p)
-    go ih false e (inl p) = absurd (let clash : true ≡ false = sym t ∙ ap test p ∙ e in cc)
-    go ih false e (inr p) = ih p
 
 module _ (h : Hierarchy) (program : Program) (ok : IsAccepted h program) (words : Words) (sound_words : AreSoundWords h program words) (sentence : List Word) where
   entry_good : (x : Entry) (i : ℕ) → Has words.entries x → word_at sentence i ≡ Some x.word → suc i ≤ length sentence → IsGood h program sentence (passive_of i (suc i) x)
@@ -169,7 +133,7 @@ module _ (h : Hierarchy) (program : Program) (ok : IsAccepted h program) (words 
   rule_good : (r : Rule) (i k : ℕ) → Has program.rules r → mother_at program.rules (Some k) ≡ Some r.mother → i ≤ length sentence → IsGood h program sentence (rule_item i k r)
   rule_good r i k has number place = record {
     item = record {
-      is = record { structure = one_is h ok.lawful r.slots; root_below = omega arith; env_below = λ v n b. absurd (none_bound r.slots v n b); imposed_below = λ n c p. absurd p };
+      is = record { structure = one_is h ok.lawful r.slots; root_below = omega arith; env_below = λ v n b. absurd (none_bound r.slots 0 v n b); imposed_below = λ n c p. absurd p };
       active = λ e es eq. record {
         mother = r.mother;
         number = number;
@@ -203,7 +167,7 @@ module _ (h : Hierarchy) (program : Program) (ok : IsAccepted h program) (words 
       pends s to mor d ds eq u ext assign inside agrees m is holds_m j covers =
           let same : m ≡ r.mother = some_one (sym is ∙ number) in
           by_rule (to 0) i j r assign has inside (within s u ext (to 0) (mor.into 0 (omega arith))) (subst (λ z. HoldsAt h u assign z (to 0)) same holds_m)
-            (subst (λ z. Covers h program u sentence assign z i j) (ap (λ z. map (renamed to) z) (sym eq) ∙ rule_renamed h to r.slots r.elements fits.elements) covers)
+          (subst (λ z. Covers h program u sentence assign z i j) (ap (λ z. map (renamed to) z) (sym eq) ∙ rule_renamed h to r.slots r.elements fits.elements) covers)
         where
           within : (s u : Structure) → Extends h s u → (n : ℕ) → n < count s → n < count u
           within s u ext n low = stays.within h s u ext n low
@@ -233,7 +197,7 @@ module _ (h : Hierarchy) (program : Program) (ok : IsAccepted h program) (words 
   initial_good i [] size at x has = between_good i (omega arith) x has
   initial_good i (w ∷ ws) size at x has =
       go (initial_good (suc i) ws (omega arith) (λ k. at (suc k) ∙ ap (word_at sentence) (omega arith)) x)
-        (has_either (map (passive_of i (suc i)) (filter (λ (e : Entry). same_word e.word w) words.entries)) (between words program i ++ initial_items words program (suc i) ws) x has)
+      (has_either (map (passive_of i (suc i)) (filter (λ (e : Entry). same_word e.word w) words.entries)) (between words program i ++ initial_items words program (suc i) ws) x has)
     where
       entry : (e : Entry) → Has (filter (λ (e : Entry). same_word e.word w) words.entries) e → IsGood h program sentence (passive_of i (suc i) e)
       entry e p =
@@ -259,24 +223,24 @@ module _ (program : Program) (words : Words) where
   word_there place (v ∷ ws) zero w at e has is =
       let same : place + 0 ≡ place = omega arith in
       subst (λ n. Has (initial_items words program place (v ∷ ws)) (passive_of n (suc n) e)) (sym same)
-        (has_left (map (passive_of place (suc place)) (filter (λ (x : Entry). same_word x.word v) words.entries)) (between words program place ++ initial_items words program (suc place) ws) (passive_of place (suc place) e)
-          (in_map (passive_of place (suc place)) (filter (λ (x : Entry). same_word x.word v) words.entries) e (has_filter (λ (x : Entry). same_word x.word v) words.entries e has (is_same e.word v (is ∙ sym (some_one at))))))
+      (has_left (map (passive_of place (suc place)) (filter (λ (x : Entry). same_word x.word v) words.entries)) (between words program place ++ initial_items words program (suc place) ws) (passive_of place (suc place) e)
+      (in_map (passive_of place (suc place)) (filter (λ (x : Entry). same_word x.word v) words.entries) e (Has-filter (λ (x : Entry). same_word x.word v) words.entries e has (is_same e.word v (is ∙ sym (some_one at))))))
   word_there place (v ∷ ws) (suc i) w at e has is =
       let same : suc place + i ≡ place + suc i = omega arith in
       subst (λ n. Has (initial_items words program place (v ∷ ws)) (passive_of n (suc n) e)) same
-        (has_right (map (passive_of place (suc place)) (filter (λ (x : Entry). same_word x.word v) words.entries)) (between words program place ++ initial_items words program (suc place) ws) (passive_of (suc place + i) (suc (suc place + i)) e)
-          (has_right (between words program place) (initial_items words program (suc place) ws) (passive_of (suc place + i) (suc (suc place + i)) e) (word_there (suc place) ws i w at e has is)))
+      (has_right (map (passive_of place (suc place)) (filter (λ (x : Entry). same_word x.word v) words.entries)) (between words program place ++ initial_items words program (suc place) ws) (passive_of (suc place + i) (suc (suc place + i)) e)
+      (has_right (between words program place) (initial_items words program (suc place) ws) (passive_of (suc place + i) (suc (suc place + i)) e) (word_there (suc place) ws i w at e has is)))
 
   pub between_there : (place : ℕ) (ws : List Word) (i : ℕ) → i ≤ length ws → (x : ChartItem) → Has (between words program (place + i)) x → Has (initial_items words program place ws) x
   between_there place [] i low x has = let same : place + i ≡ place = omega arith in subst (λ n. Has (between words program n) x) same has
   between_there place (v ∷ ws) zero low x has =
       let same : place + 0 ≡ place = omega arith in
       has_right (map (passive_of place (suc place)) (filter (λ (x : Entry). same_word x.word v) words.entries)) (between words program place ++ initial_items words program (suc place) ws) x
-        (has_left (between words program place) (initial_items words program (suc place) ws) x (subst (λ n. Has (between words program n) x) same has))
+      (has_left (between words program place) (initial_items words program (suc place) ws) x (subst (λ n. Has (between words program n) x) same has))
   between_there place (v ∷ ws) (suc i) low x has =
       let same : place + suc i ≡ suc place + i = omega arith in
       has_right (map (passive_of place (suc place)) (filter (λ (x : Entry). same_word x.word v) words.entries)) (between words program place ++ initial_items words program (suc place) ws) x
-        (has_right (between words program place) (initial_items words program (suc place) ws) x (between_there (suc place) ws i (omega arith) x (subst (λ n. Has (between words program n) x) same has)))
+      (has_right (between words program place) (initial_items words program (suc place) ws) x (between_there (suc place) ws i (omega arith) x (subst (λ n. Has (between words program n) x) same has)))
 
   rules_there : (place j : ℕ) (rs : List Rule) (r : Rule) → Has rs r →
       (k : ℕ) × (get_or (map (λ (q : Rule). Some q.mother) rs) k None ≡ Some r.mother) × Has (rules_from place j rs) (record { from = place; to = place; kept = one_node r.slots; root = 0; rule = Some (j + k); rest = r.elements })
@@ -293,6 +257,9 @@ module _ (program : Program) (words : Words) where
       (k : ℕ) × (mother_at program.rules (Some k) ≡ Some r.mother) × Has (between words program place) (record { from = place; to = place; kept = one_node r.slots; root = 0; rule = Some k; rest = r.elements })
   rule_there place r has =
       let t = rules_there place 0 program.rules r has in
-      let same : 0 + t.0 ≡ t.0 = omega arith in
-      (t.0, t.1, has_right (map (passive_of place place) words.empties) (rules_from place 0 program.rules) (record { from = place; to = place; kept = one_node r.slots; root = 0; rule = Some t.0; rest = r.elements })
-        (subst (λ n. Has (rules_from place 0 program.rules) (record { from = place; to = place; kept = one_node r.slots; root = 0; rule = Some n; rest = r.elements })) same t.2))
+      let same : 0 + t.0 ≡ t.0 = omega arith in (
+        t.0,
+        t.1,
+        has_right (map (passive_of place place) words.empties) (rules_from place 0 program.rules) (record { from = place; to = place; kept = one_node r.slots; root = 0; rule = Some t.0; rest = r.elements })
+            (subst (λ n. Has (rules_from place 0 program.rules) (record { from = place; to = place; kept = one_node r.slots; root = 0; rule = Some n; rest = r.elements })) same t.2),
+      )

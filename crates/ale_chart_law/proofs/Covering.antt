@@ -6,40 +6,41 @@ use Rattle.ale_declared.specs.Lists.{Has}
 use Rattle.ale_hierarchy.specs.Hierarchy.{Hierarchy, Above}
 use Rattle.ale_graph.specs.declared.fact.Fact.{Fact}
 use Rattle.ale_graph.specs.declared.fact.Fact.TheVariants.{Same}
-use Rattle.ale_graph.specs.Structures.{Structure, IsStructure, count, type_of, value_of}
+use Rattle.ale_graph.specs.Structures.{Structure, count, type_of, value_of}
 use Rattle.ale_graph.specs.Facts.{Holds, HoldsFact}
 use Rattle.ale_graph.specs.Morphisms.{IsMorphismAside}
-use Rattle.ale_graph.proofs.Lists.{has_left, none_some, some_one}
+use Rattle.ale_graph.proofs.Lists.{none_some, some_one}
 use Rattle.ale_logic.specs.Descriptions.{Description, HoldsAt, IsAssignment}
 use Rattle.ale_logic.specs.Goals.{Goal}
 use Rattle.ale_logic.specs.Programs.{Word, Element, cat, cats, derived, sem_head, member, tail, Rule, ListTypes, Program}
-use Rattle.ale_logic.specs.Fitting.{FitsElement, FitsRule}
+use Rattle.ale_logic.specs.Fitting.{FitsRule}
 use Rattle.ale_logic.specs.Derivations.{Derivable}
 use Rattle.ale_logic.specs.Models.{IsModel}
-use Rattle.ale_logic.specs.ListNodes.{hd_of, tl_of, IsEmptyList, IsNonEmptyList, IsCell, IsHd, IsTl}
-use Rattle.ale_logic.specs.Words.{Environment, bound_in, Entry, Words, StandsAt}
+use Rattle.ale_logic.specs.ListNodes.{hd_of, tl_of, IsEmptyList, IsNonEmptyList, IsHd, IsTl}
+use Rattle.ale_logic.specs.Words.{bound_in, Entry, Words, StandsAt}
 use Rattle.ale_logic.specs.Spans.{Spans, Covers, ListSpans, word_at}
 use Rattle.ale_logic.specs.Spans.Spans.{by_word, by_empty, by_rule}
 use Rattle.ale_logic.specs.Spans.Covers.{no_more, by_cat, by_head, by_cats, by_goal, by_member, by_tail}
 use Rattle.ale_logic.specs.Spans.ListSpans.{ends, goes_on}
 use Rattle.ale_logic.specs.States.{holds, Item, on, derive, split, bound, State, told, doing, doing_all, grown}
 use Rattle.ale_logic.specs.Putting.{graph_facts, moved}
-use Rattle.ale_logic.specs.Satisfaction.{Sense, Satisfies, HoldItems, HoldsEnd, IsBound}
-use Rattle.ale_logic.specs.Parts.{Part, Extract, renamed}
+use Rattle.ale_logic.specs.Satisfaction.{Sense, Satisfies, HoldItems, HoldsEnd}
+use Rattle.ale_logic.specs.Parts.{Extract, renamed}
 use Rattle.ale_logic.specs.PartLaws.{IsElementBelow, AreElementsBelow, PartLaw}
 use Rattle.ale_logic.specs.PutLaws.{PutLaws}
 use Rattle.ale_logic.specs.Runs.{RunLaws}
 use Rattle.ale_engine.specs.Engine.{search}
 use Rattle.ale_logic.specs.Visits.{Answer, visit}
-use Rattle.ale_logic.specs.Lexicons.{wordless, with_words}
-use Rattle.ale_logic.specs.Answers.{IsAccepted, SubsumesAt}
+use Rattle.ale_logic.specs.Lexicons.{wordless}
+use Rattle.ale_logic.specs.Answers.{IsAccepted}
 use Rattle.ale_logic.specs.Starts.{ChartItem, mother_at, at_node, end_of, end_items, start_item, split_at, own_start, side_by_side, root_beside, same_as, daughter_start}
 use Rattle.ale_logic.specs.Charts.{passive_of, one_node, ItemTask, item_of, item_task, own_tasks, daughter_tasks}
 use Rattle.ale_logic.specs.LexiconLaws.{AreAllWords}
-use Rattle.ale_logic.specs.ChartLaws.{IsCovered, Replaces, CoversAll}
-use Rattle.ale_chart_law.proofs.Items.{none_bound, IsItem, IsActive, IsStart, rest_below, hd_below, tl_below, own_is, daughter_is, first_left}
+use Rattle.ale_logic.specs.ChartLaws.{IsCovered, Replaces}
+use Rattle.ale_run_law.proofs.First.{none_bound}
+use Rattle.ale_chart_law.proofs.Items.{IsItem, IsStart, rest_below, hd_below, tl_below, own_is, daughter_is, first_left}
 use Rattle.ale_chart_law.proofs.Maps.{beside, beside_low, beside_high, beside_from, beside_at, holds_both, put_first, put_from}
-use Rattle.ale_chart_law.proofs.Searches.{renamed_same, gr, Arrival, arrival}
+use Rattle.ale_chart_law.proofs.Searches.{none_left, rule_renamed, renamed_same, gr, Arrival, arrival}
 
 -- the item is there, or another passive one that replaces it
 abbrev pub Stands : Hierarchy → List ChartItem → ChartItem → Type 0
@@ -60,7 +61,7 @@ pub record IsClosedChart (h : Hierarchy) (program : Program) (extract : Extract)
   pub at_word : (i : ℕ) (w : Word) → word_at sentence i ≡ Some w → (e : Entry) → Has words.entries e → e.word ≡ w → Has all (passive_of i (suc i) e)
   pub at_empty : (i : ℕ) → i ≤ length sentence → (e : Entry) → Has words.empties e → Has all (passive_of i i e)
   pub at_rule : (i : ℕ) → i ≤ length sentence → (r : Rule) → Has program.rules r →
-    (k : ℕ) × (mother_at program.rules (Some k) ≡ Some r.mother) × Has all (record { from = i; to = i; kept = one_node r.slots; root = 0; rule = Some k; rest = r.elements })
+      (k : ℕ) × (mother_at program.rules (Some k) ≡ Some r.mother) × Has all (record { from = i; to = i; kept = one_node r.slots; root = 0; rule = Some k; rest = r.elements })
 
 -- what a renamed element is
 is_goal : (f : ℕ → ℕ) (e : Element) (g : Goal) → renamed f e ≡ derived g → e ≡ derived g
@@ -130,10 +131,6 @@ tl_goes (Some l) g s f keeps n k m t goes one two = some_one (sym (keeps n l.tl 
 hd_goes : (o : Option ListTypes) (g s : Structure) (f : ℕ → ℕ) → ((n k m : ℕ) → value_of g n k ≡ Some m → value_of s (f n) k ≡ Some (f m)) → (n k m t : ℕ) → f n ≡ m → hd_of o g n ≡ Some k → hd_of o s m ≡ Some t → f k ≡ t
 hd_goes None g s f keeps n k m t goes one two = absurd (none_some one)
 hd_goes (Some l) g s f keeps n k m t goes one two = some_one (sym (keeps n l.hd k one) ∙ ap (λ z. value_of s z l.hd) goes ∙ two)
-
-none_left : (f : ℕ → ℕ) (xs : List Element) → map (renamed f) xs ≡ [] → xs ≡ []
-none_left f [] p = refl
-none_left f (x ∷ xs) p = absurd cc
 
 module _ (h : Hierarchy) (program : Program) (ok : IsAccepted h program) (runs : RunLaws) (puts : PutLaws) (extract : Extract) (part : PartLaw h program extract) (words : Words) (sentence : List Word) (all : List ChartItem) (closed : IsClosedChart h program extract words sentence all) (s : Structure) (model : IsModel h program s) where
   -- the rule that is covered: its mother, which holds at the node, with what its variables are assigned
@@ -247,7 +244,7 @@ module _ (h : Hierarchy) (program : Program) (ok : IsAccepted h program) (runs :
     own_ran : (e' : Element) (es' : List Element) → at.item.rest ≡ e' ∷ es' → (st : State) → Has (own_start program at.item e' es') st → Ran h program all (item_task extract at.item at.item.to st)
     own_ran e' es' eq st has =
         closed.own_ran at.item at.has (item_task extract at.item at.item.to st)
-          (subst (λ z. Has (own_tasks extract program at.item z) (item_task extract at.item at.item.to st)) (sym eq) (in_tasks (own_start program at.item e' es') has))
+        (subst (λ z. Has (own_tasks extract program at.item z) (item_task extract at.item at.item.to st)) (sym eq) (in_tasks (own_start program at.item e' es') has))
       where
         in_tasks : (sts : List State) → Has sts st → Has (map (item_task extract at.item at.item.to) sts) (item_task extract at.item at.item.to st)
         in_tasks [] has = absurd has
@@ -279,7 +276,7 @@ module _ (h : Hierarchy) (program : Program) (ok : IsAccepted h program) (runs :
         let far = start.far in
         let root = it.is.root_below in
         subst (λ k. Comes c k left) at.to
-          (arrive c at.item at.number at.from at.item.to st start (omega arith) (own_ran e' es' eq st has) node (same at.item.root root ∙ at.root_to) remain left sat named are)
+        (arrive c at.item at.number at.from at.item.to st start (omega arith) (own_ran e' es' eq st has) node (same at.item.root root ∙ at.root_to) remain left sat named are)
 
     own_holds : (node : ℕ → ℕ) → Goes node → Holds h s node (graph_facts 0 at.item.kept.graph)
     own_holds node same = put_first puts h s at.item.kept.graph at.map_to node it.is.structure at.is same
@@ -295,11 +292,11 @@ module _ (h : Hierarchy) (program : Program) (ok : IsAccepted h program) (runs :
           let eq : at.item.rest ≡ derived g ∷ u.others = u.are ∙ ap (λ z. z ∷ u.others) (is_goal at.map_to u.first g u.first_is) in
           let end : Option (ℕ × Description) = end_of program at.item u.others in
           own_step c j (derived g) es at (derived g) u.others eq (doing (derive 0 0 g) (doing_all (end_items end) (start_item at.item u.others))) (inl refl) at.map_to (λ n l. refl) u.others es
-            (satisfied c j (derived g) es at at.map_to (λ n l. refl) (graph_facts 0 at.item.kept.graph) (0 + count at.item.kept.graph) (moved 0 at.item.kept.imposed) (derive 0 0 g ∷ (end_items end ++ [])) u.others u.others
-              (zero_low c j (derived g) es at) (own_holds c j (derived g) es at at.map_to (λ n l. refl))
-              (derivable, ends_hold c j (derived g) es at at.map_to end u.others (holds_end c j (derived g) es at at.map_to (λ n l. refl) u.others)))
-            (below_more c j (derived g) es at (0 + count at.item.kept.graph) (omega arith) u.others (others_below c j (derived g) es at (derived g) u.others eq))
-            u.others_are
+          (satisfied c j (derived g) es at at.map_to (λ n l. refl) (graph_facts 0 at.item.kept.graph) (0 + count at.item.kept.graph) (moved 0 at.item.kept.imposed) (derive 0 0 g ∷ (end_items end ++ [])) u.others u.others
+          (zero_low c j (derived g) es at) (own_holds c j (derived g) es at at.map_to (λ n l. refl))
+          (derivable, ends_hold c j (derived g) es at at.map_to end u.others (holds_end c j (derived g) es at at.map_to (λ n l. refl) u.others)))
+          (below_more c j (derived g) es at (0 + count at.item.kept.graph) (omega arith) u.others (others_below c j (derived g) es at (derived g) u.others eq))
+          u.others_are
 
   -- both ways in which an open list goes on
   abbrev pub Opens : Ctx → ℕ → ℕ → List Element → Type 0
@@ -337,13 +334,13 @@ module _ (h : Hierarchy) (program : Program) (ok : IsAccepted h program) (runs :
               AreElementsBelow ((0 + count at.item.kept.graph) + 1) remain → map (renamed (beside (0 + count at.item.kept.graph) at.map_to (λ k. m))) remain ≡ left → Comes c j left
           way remain left items named are =
               own_step c j (cats d) es at (cats d) u.others eq
-                (doing (on (start_item at.item u.others).next (holds 0 d)) (doing (split (start_item at.item u.others).next (end_of program at.item u.others)) (grown 1 (start_item at.item u.others)))) (inl refl)
-                (beside (0 + count at.item.kept.graph) at.map_to (λ k. m)) same remain left
-                (satisfied c j (cats d) es at (beside (0 + count at.item.kept.graph) at.map_to (λ k. m)) same (graph_facts 0 at.item.kept.graph) ((0 + count at.item.kept.graph) + 1) (moved 0 at.item.kept.imposed)
-                  (on (0 + count at.item.kept.graph) (holds 0 d) ∷ split (0 + count at.item.kept.graph) (end_of program at.item u.others) ∷ []) u.others remain into
-                  (own_holds c j (cats d) es at (beside (0 + count at.item.kept.graph) at.map_to (λ k. m)) same)
-                  (subst (HoldsAt h s c.assign d) (sym at_list) holds_d, items))
-                named are
+              (doing (on (start_item at.item u.others).next (holds 0 d)) (doing (split (start_item at.item u.others).next (end_of program at.item u.others)) (grown 1 (start_item at.item u.others)))) (inl refl)
+              (beside (0 + count at.item.kept.graph) at.map_to (λ k. m)) same remain left
+              (satisfied c j (cats d) es at (beside (0 + count at.item.kept.graph) at.map_to (λ k. m)) same (graph_facts 0 at.item.kept.graph) ((0 + count at.item.kept.graph) + 1) (moved 0 at.item.kept.imposed)
+              (on (0 + count at.item.kept.graph) (holds 0 d) ∷ split (0 + count at.item.kept.graph) (end_of program at.item u.others) ∷ []) u.others remain into
+              (own_holds c j (cats d) es at (beside (0 + count at.item.kept.graph) at.map_to (λ k. m)) same)
+              (subst (HoldsAt h s c.assign d) (sym at_list) holds_d, items))
+              named are
 
           below : AreElementsBelow ((0 + count at.item.kept.graph) + 1) u.others
           below = below_more c j (cats d) es at ((0 + count at.item.kept.graph) + 1) (omega arith) u.others (others_below c j (cats d) es at (cats d) u.others eq)
@@ -358,8 +355,8 @@ module _ (h : Hierarchy) (program : Program) (ok : IsAccepted h program) (runs :
           longer_way : IsNonEmptyList h program s m → Comes c j (member m ∷ tail m ∷ es)
           longer_way longer =
               way (member (0 + count at.item.kept.graph) ∷ tail (0 + count at.item.kept.graph) ∷ u.others) (member m ∷ tail m ∷ es) (inr (subst (IsNonEmptyList h program s) (sym at_list) longer, refl))
-                (opened_below (0 + count at.item.kept.graph) ((0 + count at.item.kept.graph) + 1) u.others (omega arith) below)
-                (ap (λ z. member z ∷ tail z ∷ map (renamed (beside (0 + count at.item.kept.graph) at.map_to (λ k. m))) u.others) at_list ∙ ap (λ z. member m ∷ tail m ∷ z) others)
+              (opened_below (0 + count at.item.kept.graph) ((0 + count at.item.kept.graph) + 1) u.others (omega arith) below)
+              (ap (λ z. member z ∷ tail z ∷ map (renamed (beside (0 + count at.item.kept.graph) at.map_to (λ k. m))) u.others) at_list ∙ ap (λ z. member m ∷ tail m ∷ z) others)
 
   step_tail : (c : Ctx) (j : ℕ) (es : List Element) (m tl : ℕ) → At c j (tail m ∷ es) → IsTl program s m tl → Opens c j tl es
   step_tail c j es m tl at is_tl = go (uncons at.map_to at.item.rest (tail m) es at.rest)
@@ -388,11 +385,11 @@ module _ (h : Hierarchy) (program : Program) (ok : IsAccepted h program) (runs :
               way : (remain left : List Element) → HoldItems (gr h program ok runs) s (sense_of c at.map_to) (split there.0 (end_of program at.item u.others) ∷ []) u.others remain → AreElementsBelow (0 + count at.item.kept.graph) remain → map (renamed at.map_to) remain ≡ left → Comes c j left
               way remain left items named are =
                   own_step c j (tail m) es at (tail n) u.others eq (doing (split there.0 (end_of program at.item u.others)) (start_item at.item u.others))
-                    (subst (λ o. Has (split_at program at.item u.others o) (doing (split there.0 (end_of program at.item u.others)) (start_item at.item u.others))) (sym there.1) (inl refl))
-                    at.map_to (λ i l. refl) remain left
-                    (satisfied c j (tail m) es at at.map_to (λ i l. refl) (graph_facts 0 at.item.kept.graph) (0 + count at.item.kept.graph) (moved 0 at.item.kept.imposed) (split there.0 (end_of program at.item u.others) ∷ []) u.others remain
-                      (zero_low c j (tail m) es at) (own_holds c j (tail m) es at at.map_to (λ i l. refl)) items)
-                    named are
+                  (subst (λ o. Has (split_at program at.item u.others o) (doing (split there.0 (end_of program at.item u.others)) (start_item at.item u.others))) (sym there.1) (inl refl))
+                  at.map_to (λ i l. refl) remain left
+                  (satisfied c j (tail m) es at at.map_to (λ i l. refl) (graph_facts 0 at.item.kept.graph) (0 + count at.item.kept.graph) (moved 0 at.item.kept.imposed) (split there.0 (end_of program at.item u.others) ∷ []) u.others remain
+                  (zero_low c j (tail m) es at) (own_holds c j (tail m) es at at.map_to (λ i l. refl)) items)
+                  named are
 
               empty_way : IsEmptyList h program s tl → Comes c j es
               empty_way empty =
@@ -401,8 +398,8 @@ module _ (h : Hierarchy) (program : Program) (ok : IsAccepted h program) (runs :
               longer_way : IsNonEmptyList h program s tl → Comes c j (member tl ∷ tail tl ∷ es)
               longer_way longer =
                   way (member there.0 ∷ tail there.0 ∷ u.others) (member tl ∷ tail tl ∷ es) (inr (subst (IsNonEmptyList h program s) (sym arrives) longer, refl))
-                    (let small = low in opened_below there.0 (0 + count at.item.kept.graph) u.others (omega arith) below)
-                    (ap (λ z. member z ∷ tail z ∷ map (renamed at.map_to) u.others) arrives ∙ ap (λ z. member tl ∷ tail tl ∷ z) u.others_are)
+                  (let small = low in opened_below there.0 (0 + count at.item.kept.graph) u.others (omega arith) below)
+                  (ap (λ z. member z ∷ tail z ∷ map (renamed at.map_to) u.others) arrives ∙ ap (λ z. member tl ∷ tail tl ∷ z) u.others_are)
 
   -- where an item meets a passive one that begins where it ends
   module _ (c : Ctx) (j : ℕ) (e : Element) (es : List Element) (at : At c j (e ∷ es)) (y : ChartItem) (has_y : Has all y) (passive : y.rest ≡ []) (begins : y.from ≡ j) (f : ℕ → ℕ) (mor : IsMorphismAside h y.kept.graph s f) where
@@ -432,14 +429,14 @@ module _ (h : Hierarchy) (program : Program) (ok : IsAccepted h program) (runs :
     both_hold : Holds h s both (graph_facts 0 at.item.kept.graph ++ graph_facts size y.kept.graph)
     both_hold =
         holds_both h s both (graph_facts 0 at.item.kept.graph) (graph_facts size y.kept.graph) (own_holds c j e es at both both_same)
-          (put_from puts h s size y.kept.graph f both other.is.structure mor (λ n low. beside_from size at.map_to f n))
+        (put_from puts h s size y.kept.graph f both other.is.structure mor (λ n low. beside_from size at.map_to f n))
 
     -- the task of a start with the other item stands among those of the two
     pair_ran : (e' : Element) (es' : List Element) → at.item.rest ≡ e' ∷ es' → (st : State) → Has (daughter_start program at.item e' es' y) st → Ran h program all (item_task extract at.item y.to st)
     pair_ran e' es' eq st has =
         closed.meets_ran at.item y at.has has_y (item_task extract at.item y.to st)
-          (subst (λ z. Has (daughter_tasks extract program at.item z y y.rest) (item_task extract at.item y.to st)) (sym eq)
-            (subst (λ z. Has (daughter_tasks extract program at.item (e' ∷ es') y z) (item_task extract at.item y.to st)) (sym passive) (taken (eqb at.item.to y.from) (eq-eqb at.item.to y.from (at.to ∙ sym begins)))))
+        (subst (λ z. Has (daughter_tasks extract program at.item z y y.rest) (item_task extract at.item y.to st)) (sym eq)
+        (subst (λ z. Has (daughter_tasks extract program at.item (e' ∷ es') y z) (item_task extract at.item y.to st)) (sym passive) (taken (eqb at.item.to y.from) (eq-eqb at.item.to y.from (at.to ∙ sym begins)))))
       where
         in_tasks : (sts : List State) → Has sts st → Has (map (item_task extract at.item y.to) sts) (item_task extract at.item y.to st)
         in_tasks [] has = absurd has
@@ -456,27 +453,27 @@ module _ (h : Hierarchy) (program : Program) (ok : IsAccepted h program) (runs :
         let far = start.far in
         let root = (closed.item at.item at.has).is.root_below in
         arrive c at.item at.number at.from y.to st start (omega arith) (pair_ran e' es' eq st has) both (both_same at.item.root root ∙ at.root_to) es' es sat
-          (below_more c j e es at st.next far es' (others_below c j e es at e' es' eq)) (others_go c j e es at both both_same e' es' eq are)
+        (below_more c j e es at st.next far es' (others_below c j e es at e' es' eq)) (others_go c j e es at both both_same e' es' eq are)
 
     -- a daughter by a description, a head among them
     pair_described : (d : Description) (e' : Element) (es' : List Element) → at.item.rest ≡ e' ∷ es' → map (renamed at.map_to) es' ≡ es →
         Has (daughter_start program at.item e' es' y) (doing (on (root_beside at.item es' y) (holds 0 d)) (side_by_side program at.item es' y)) → HoldsAt h s c.assign d (f y.root) → Comes c y.to es
     pair_described d e' es' eq are has holds_d =
         pair_step e' es' eq are (doing (on (root_beside at.item es' y) (holds 0 d)) (side_by_side program at.item es' y)) has
-          (satisfied c j e es at both both_same (graph_facts 0 at.item.kept.graph ++ graph_facts size y.kept.graph) (size + count y.kept.graph) (moved 0 at.item.kept.imposed ++ moved size y.kept.imposed)
-            (on (size + y.root) (holds 0 d) ∷ (end_items (end_of program at.item es') ++ [])) es' es' both_into both_hold
-            (subst (HoldsAt h s c.assign d) (sym both_root) holds_d, ends_hold c j e es at both (end_of program at.item es') es' (holds_end c j e es at both both_same es')))
+        (satisfied c j e es at both both_same (graph_facts 0 at.item.kept.graph ++ graph_facts size y.kept.graph) (size + count y.kept.graph) (moved 0 at.item.kept.imposed ++ moved size y.kept.imposed)
+        (on (size + y.root) (holds 0 d) ∷ (end_items (end_of program at.item es') ++ [])) es' es' both_into both_hold
+        (subst (HoldsAt h s c.assign d) (sym both_root) holds_d, ends_hold c j e es at both (end_of program at.item es') es' (holds_end c j e es at both both_same es')))
 
     -- the first member of a list node
     pair_member : (n k : ℕ) (es' : List Element) → at.item.rest ≡ member n ∷ es' → map (renamed at.map_to) es' ≡ es → hd_of program.lists at.item.kept.graph n ≡ Some k → at.map_to k ≡ f y.root → Comes c y.to es
     pair_member n k es' eq are there goes =
         let low : k < count at.item.kept.graph = hd_below at.item.kept.graph (closed.item at.item at.has).is.structure.formed program.lists n k there in
         pair_step (member n) es' eq are (told (Same k (root_beside at.item es' y)) (side_by_side program at.item es' y))
-          (subst (λ o. Has (same_as (side_by_side program at.item es' y) (root_beside at.item es' y) o) (told (Same k (root_beside at.item es' y)) (side_by_side program at.item es' y))) (sym there) (inl refl))
-          (satisfied c j e es at both both_same ((graph_facts 0 at.item.kept.graph ++ graph_facts size y.kept.graph) ++ Same k (size + y.root) ∷ []) (size + count y.kept.graph) (moved 0 at.item.kept.imposed ++ moved size y.kept.imposed)
-            (end_items (end_of program at.item es') ++ []) es' es' both_into
-            (holds_both h s both (graph_facts 0 at.item.kept.graph ++ graph_facts size y.kept.graph) (Same k (size + y.root) ∷ []) both_hold (λ x has. same x has (both_same k low ∙ goes ∙ sym both_root)))
-            (ends_hold c j e es at both (end_of program at.item es') es' (holds_end c j e es at both both_same es')))
+        (subst (λ o. Has (same_as (side_by_side program at.item es' y) (root_beside at.item es' y) o) (told (Same k (root_beside at.item es' y)) (side_by_side program at.item es' y))) (sym there) (inl refl))
+        (satisfied c j e es at both both_same ((graph_facts 0 at.item.kept.graph ++ graph_facts size y.kept.graph) ++ Same k (size + y.root) ∷ []) (size + count y.kept.graph) (moved 0 at.item.kept.imposed ++ moved size y.kept.imposed)
+        (end_items (end_of program at.item es') ++ []) es' es' both_into
+        (holds_both h s both (graph_facts 0 at.item.kept.graph ++ graph_facts size y.kept.graph) (Same k (size + y.root) ∷ []) both_hold (λ x has. same x has (both_same k low ∙ goes ∙ sym both_root)))
+        (ends_hold c j e es at both (end_of program at.item es') es' (holds_end c j e es at both both_same es')))
       where
         same : (x : Fact) → Has (Same k (size + y.root) ∷ []) x → both k ≡ both (size + y.root) → HoldsFact h s both x
         same x (inl p) q = subst (HoldsFact h s both) (sym p) q
@@ -492,8 +489,8 @@ module _ (h : Hierarchy) (program : Program) (ok : IsAccepted h program) (runs :
       go : Uncons at.map_to at.item.rest (cat d) es → Comes c j es
       go u =
           subst (λ k. Comes c k es) r.to
-            (pair_described c i (cat d) es at r.item r.has r.passive r.from r.subsumes.map r.subsumes.is d (cat d) u.others (u.are ∙ ap (λ z. z ∷ u.others) (is_cat at.map_to u.first d u.first_is)) u.others_are (inl refl)
-              (subst (HoldsAt h s c.assign d) (sym r.subsumes.root_to) holds_d))
+          (pair_described c i (cat d) es at r.item r.has r.passive r.from r.subsumes.map r.subsumes.is d (cat d) u.others (u.are ∙ ap (λ z. z ∷ u.others) (is_cat at.map_to u.first d u.first_is)) u.others_are (inl refl)
+          (subst (HoldsAt h s c.assign d) (sym r.subsumes.root_to) holds_d))
 
   step_head : (c : Ctx) (i j : ℕ) (d : Description) (es : List Element) (m : ℕ) → At c i (sem_head d ∷ es) → HoldsAt h s c.assign d m → Covered m i j → Comes c j es
   step_head c i j d es m at holds_d r = go (uncons at.map_to at.item.rest (sem_head d) es at.rest)
@@ -501,8 +498,8 @@ module _ (h : Hierarchy) (program : Program) (ok : IsAccepted h program) (runs :
       go : Uncons at.map_to at.item.rest (sem_head d) es → Comes c j es
       go u =
           subst (λ k. Comes c k es) r.to
-            (pair_described c i (sem_head d) es at r.item r.has r.passive r.from r.subsumes.map r.subsumes.is d (sem_head d) u.others (u.are ∙ ap (λ z. z ∷ u.others) (is_head at.map_to u.first d u.first_is)) u.others_are (inl refl)
-              (subst (HoldsAt h s c.assign d) (sym r.subsumes.root_to) holds_d))
+          (pair_described c i (sem_head d) es at r.item r.has r.passive r.from r.subsumes.map r.subsumes.is d (sem_head d) u.others (u.are ∙ ap (λ z. z ∷ u.others) (is_head at.map_to u.first d u.first_is)) u.others_are (inl refl)
+          (subst (HoldsAt h s c.assign d) (sym r.subsumes.root_to) holds_d))
 
   step_member : (c : Ctx) (i j : ℕ) (es : List Element) (m hd : ℕ) → At c i (member m ∷ es) → IsHd program s m hd → Covered hd i j → Comes c j es
   step_member c i j es m hd at is_hd r = go (uncons at.map_to at.item.rest (member m) es at.rest)
@@ -516,7 +513,7 @@ module _ (h : Hierarchy) (program : Program) (ok : IsAccepted h program) (runs :
               let there = (first_left h program ok.lawful at.item (closed.item at.item at.has) (member n) u.others eq).there in
               let arrives : at.map_to there.0 ≡ hd = hd_goes program.lists at.item.kept.graph s at.map_to at.is.values n there.0 m hd goes there.1 is_hd in
               subst (λ k. Comes c k es) r.to
-                (pair_member c i (member m) es at r.item r.has r.passive r.from r.subsumes.map r.subsumes.is n there.0 u.others eq u.others_are there.1 (arrives ∙ sym r.subsumes.root_to))
+              (pair_member c i (member m) es at r.item r.has r.passive r.from r.subsumes.map r.subsumes.is n there.0 u.others eq u.others_are there.1 (arrives ∙ sym r.subsumes.root_to))
 
   -- the places of what is covered are ones of the sentence
   covered_place : (n i k : ℕ) → Covered n i k → k ≤ length sentence
@@ -537,18 +534,6 @@ module _ (h : Hierarchy) (program : Program) (ok : IsAccepted h program) (runs :
       values zero f m e = absurd (none_some e)
       values (suc k) f m e = absurd (none_some e)
 
-  rule_elements : (f : ℕ → ℕ) (slots : ℕ) (es : List Element) → ((e : Element) → Has es e → FitsElement h slots e) → map (renamed f) es ≡ es
-  rule_elements f slots [] fit = refl
-  rule_elements f slots (e ∷ es) fit = go e (fit e (inl refl)) (rule_elements f slots es (λ d has. fit d (inr has)))
-    where
-      go : (d : Element) → FitsElement h slots d → map (renamed f) es ≡ es → renamed f d ∷ map (renamed f) es ≡ d ∷ es
-      go (cat x) b ih = ap (λ z. cat x ∷ z) ih
-      go (cats x) b ih = ap (λ z. cats x ∷ z) ih
-      go (sem_head x) b ih = ap (λ z. sem_head x ∷ z) ih
-      go (derived x) b ih = ap (λ z. derived x ∷ z) ih
-      go (member n) b ih = absurd b
-      go (tail n) b ih = absurd b
-
   first_comes : (c : Ctx) (r : Rule) → Has program.rules r → c.mother ≡ r.mother → c.node < count s → c.from ≤ length sentence → Comes c c.from r.elements
   first_comes c r has mother low place = go r.elements refl (closed.at_rule c.from place r has)
     where
@@ -566,8 +551,8 @@ module _ (h : Hierarchy) (program : Program) (ok : IsAccepted h program) (runs :
         map_to = λ k. c.node;
         is = one_goes r.slots c.node low;
         root_to = refl;
-        rest = rule_elements (λ k. c.node) r.slots r.elements fits.elements ∙ eq;
-        env = λ v n b. absurd (none_bound r.slots v n b);
+        rest = rule_renamed h (λ k. c.node) r.slots r.elements fits.elements ∙ eq;
+        env = λ v n b. absurd (none_bound r.slots 0 v n b);
       }
 
   list_inside : (m i j : ℕ) → ListSpans h program s sentence m i j → m < count s
@@ -589,7 +574,7 @@ module _ (h : Hierarchy) (program : Program) (ok : IsAccepted h program) (runs :
           standing r.0 n i i (closed.at_empty i place r.0 r.1) r.2
       span_on _ _ _ place (by_rule n i k r assign has inside low holds_m covers) =
           cover_on (record { mother = r.mother; assign = assign; inside = inside; node = n; from = i; holds = holds_m }) r.elements i k place covers
-            (first_comes (record { mother = r.mother; assign = assign; inside = inside; node = n; from = i; holds = holds_m }) r has refl low place)
+          (first_comes (record { mother = r.mother; assign = assign; inside = inside; node = n; from = i; holds = holds_m }) r has refl low place)
 
       cover_on : (c : Ctx) (es : List Element) (i k : ℕ) → i ≤ length sentence → Covers h program s sentence c.assign es i k → Comes c i es → Covered c.node c.from k
       cover_on c _ _ _ place (no_more assign i) comes = comes

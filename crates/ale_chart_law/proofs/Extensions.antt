@@ -1,28 +1,18 @@
 -- Extensions one after the other, and what goes on into them: morphisms, constraints that are met, added nodes.
-use Rattle.std.proofs.Common.{◌≡◌, ℕ, ◌<◌, ◌≤◌, List, [], ◌++◌, append_assoc, ◌⊎◌, inl, inr, refl, sym, ap, ◌∙◌, subst, arith, Some}
+use Rattle.std.proofs.Common.{ℕ, ◌<◌, ◌≤◌, [], ◌⊎◌, inl, inr, refl, sym, subst, arith}
 use Rattle.std.proofs.lemmas.Bool.{cases_lt}
 use Rattle.std.proofs.lemmas.List.{append-nil}
 use Rattle.ale_hierarchy.specs.Hierarchy.{Hierarchy, Above}
-use Rattle.ale_graph.specs.declared.node.Node.{Node}
 use Rattle.ale_graph.specs.Structures.{Structure, IsStructure, count, type_of}
 use Rattle.ale_graph.specs.Morphisms.{IsMorphismAside}
 use Rattle.ale_graph.specs.Extensions.{Extends}
-use Rattle.ale_logic.specs.Programs.{Constraint, Program}
-use Rattle.ale_logic.specs.Models.{MeetsConstraint, MeetsAt, constraint_at}
+use Rattle.ale_logic.specs.Programs.{Program}
+use Rattle.ale_logic.specs.Models.{MeetsConstraint, MeetsAt}
 use Rattle.ale_logic.specs.Extending.{AddedMeet}
 use Rattle.ale_extension_law.proofs.Stays as stays
 
 pub extends_self : (h : Hierarchy) (s : Structure) → IsStructure h s → Extends h s s
 extends_self h s str = record { smaller = str; larger = str; nodes = ([], sym (append-nil s.nodes)); differ = refl; roots = refl }
-
-pub extends_on : (h : Hierarchy) (s t u : Structure) → Extends h s t → Extends h t u → Extends h s u
-extends_on h s t u one two = record {
-  smaller = one.smaller;
-  larger = two.larger;
-  nodes = (one.nodes.0 ++ two.nodes.0, two.nodes.1 ∙ ap (λ (z : List Node). z ++ two.nodes.0) one.nodes.1 ∙ append_assoc s.nodes one.nodes.0 two.nodes.0);
-  differ = two.differ ∙ one.differ;
-  roots = two.roots ∙ one.roots;
-}
 
 pub morphism_on : (h : Hierarchy) (g s t : Structure) (f : ℕ → ℕ) → Extends h s t → IsMorphismAside h g s f → IsMorphismAside h g t f
 morphism_on h g s t f ext mor = record {

@@ -1,13 +1,13 @@
 -- Soundness: what an item says of where its structure goes, and that what is kept of an answer of its searches says so
 -- again: a passive item spans its places in an extension, an active one does as soon as the elements that remain are covered.
-use Rattle.std.proofs.Common.{◌≡◌, ℕ, ◌+◌, ◌<◌, ◌≤◌, List, [], ◌∷◌, ◌++◌, map, length, ◌⊎◌, inl, inr, refl, sym, ap, ◌∙◌, subst, arith, Option, Some, None}
+use Rattle.std.proofs.Common.{◌≡◌, ℕ, ◌+◌, ◌<◌, ◌≤◌, List, [], ◌∷◌, map, length, ◌⊎◌, inl, inr, refl, sym, ap, ◌∙◌, subst, arith, Some}
 use Rattle.ale_declared.specs.Lists.{Has}
 use Rattle.ale_hierarchy.specs.Hierarchy.{Hierarchy}
 use Rattle.ale_graph.specs.Structures.{Structure, IsStructure, count}
 use Rattle.ale_graph.specs.Morphisms.{IsMorphismAside}
 use Rattle.ale_graph.specs.Extensions.{Extends}
 use Rattle.ale_graph.specs.Closure.{node_of}
-use Rattle.ale_graph.proofs.Lists.{has_left, has_right, has_either}
+use Rattle.ale_graph.proofs.Lists.{has_either}
 use Rattle.ale_logic.specs.Descriptions.{Description, HoldsAt, IsAssignment}
 use Rattle.ale_logic.specs.Programs.{Word, Element, Program}
 use Rattle.ale_logic.specs.Models.{MeetsAt}
@@ -16,8 +16,8 @@ use Rattle.ale_logic.specs.Spans.{Spans, Covers}
 use Rattle.ale_logic.specs.Spans.Covers.{no_more}
 use Rattle.ale_logic.specs.States.{bound, State}
 use Rattle.ale_logic.specs.Putting.{moved}
-use Rattle.ale_logic.specs.Satisfaction.{Sense, Satisfies}
-use Rattle.ale_logic.specs.Parts.{Part, Extract, renamed, kept_answer}
+use Rattle.ale_logic.specs.Satisfaction.{Sense}
+use Rattle.ale_logic.specs.Parts.{Extract, renamed, kept_answer}
 use Rattle.ale_logic.specs.PartLaws.{IsReattached, IsPart, PartLaw}
 use Rattle.ale_logic.specs.PutLaws.{PutLaws}
 use Rattle.ale_logic.specs.Extending.{AddedMeet, IsSoundFor, OwesNothing}
@@ -30,11 +30,12 @@ use Rattle.ale_logic.specs.Charts.{item_of}
 use Rattle.ale_engine.proofs.Lists.{in_map}
 use Rattle.ale_run_law.proofs.Rises.{rise_on}
 use Rattle.ale_extension_law.proofs.Stays as stays
+use Rattle.ale_extension_law.proofs.Through.{extends_through}
 use Rattle.ale_chart_law.proofs.Items.{IsItem, IsStart, own_is, daughter_is, moved_has}
-use Rattle.ale_chart_law.proofs.Searches.{gr, IsFor, Back, Came, part_of, renamed_twice, renamed_same}
+use Rattle.ale_chart_law.proofs.Searches.{none_left, IsFor, Back, Came, part_of, renamed_twice, renamed_same}
 use Rattle.ale_chart_law.proofs.Advancing.{OwnShape, own_shape, PairShape, pair_shape, Advances, own_advances, pair_advances}
-use Rattle.ale_chart_law.proofs.Results.{assign_by, assign_bound, assign_inside, Leads, own_leads, pair_leads, own_down, pair_down, other_down, result_is}
-use Rattle.ale_chart_law.proofs.Extensions.{extends_self, extends_on, morphism_on, meets_on, added_on}
+use Rattle.ale_chart_law.proofs.Results.{assign_by, assign_bound, assign_inside, Leads, own_leads, pair_leads, other_down, result_is}
+use Rattle.ale_chart_law.proofs.Extensions.{extends_self, morphism_on, meets_on, added_on}
 
 module _ (h : Hierarchy) (program : Program) (sentence : List Word) where
   -- an active item: whatever covers the elements that remain, with the mother at the root, makes the root span
@@ -62,10 +63,6 @@ module _ (h : Hierarchy) (program : Program) (sentence : List Word) where
     pub place : x.to ≤ length sentence
     pub owes : x.rest ≡ [] → OwesNothing h program x.kept
     pub rises : (s : Structure) (to : ℕ → ℕ) → IsStructure h s → IsMorphismAside h x.kept.graph s to → Rises x s to
-
-pub nothing_left : (f : ℕ → ℕ) (xs : List Element) → map (renamed f) xs ≡ [] → xs ≡ []
-nothing_left f [] p = refl
-nothing_left f (x ∷ xs) p = absurd cc
 
 module _ (h : Hierarchy) (program : Program) (ok : IsAccepted h program) (runs : RunLaws) (puts : PutLaws) (extract : Extract) (part : PartLaw h program extract) (sentence : List Word) where
   -- where the answer's graph goes: an extension in which all that was imposed at the start is met, and what the items say
@@ -103,12 +100,12 @@ module _ (h : Hierarchy) (program : Program) (ok : IsAccepted h program) (runs :
     pended s f g u str ext assign b d number holds_d k covers =
         let pending : Pending h program sentence x g.larger b.sense.node (e ∷ es) = subst (λ w. Pending h program sentence x g.larger w (e ∷ es)) (sym b.node) g.pending in
         subst (λ n. Spans h program u sentence n x.from k) (ap (λ w. w x.root) b.node)
-          (pending u ext (b.sense.var 0) (λ v. b.satisfies.nodes 0 v) (first_bound u f assign b) d number holds_d k ((g.advances u str ext assign b).covers k covers))
+        (pending u ext (b.sense.var 0) (λ v. b.satisfies.nodes 0 v) (first_bound u f assign b) d number holds_d k ((g.advances u str ext assign b).covers k covers))
 
     result_rises : (mother : Description) → mother_at program.rules x.rule ≡ Some mother → ((s : Structure) (f : ℕ → ℕ) → IsStructure h s → IsMorphismAside h a.closed.graph s f → Grounded x e es st a to s f) → (s : Structure) (f : ℕ → ℕ) → IsStructure h s → IsMorphismAside h (extract x.root a).kept.graph s f → Rises h program sentence z s f
     result_rises mother number grounded s f str mor = record {
       larger = g.larger;
-      extends = extends_on h s back.larger g.larger back.extends g.extends;
+      extends = extends_through h s back.larger g.larger back.extends g.extends;
       added = sound.added;
       imposed = sound.imposed;
       says = says (extract x.root a).rest refl;
@@ -156,11 +153,11 @@ module _ (h : Hierarchy) (program : Program) (ok : IsAccepted h program) (runs :
         pends : (d : Element) (ds : List Element) → (extract x.root a).rest ≡ d ∷ ds → Pending h program sentence z g.larger f (d ∷ ds)
         pends d ds q u ext assign within agrees m is holds_m k covers =
             subst (λ n. Spans h program u sentence n x.from k) root_goes
-              (pended back.larger back.map g u ext.larger ext assign there m is
-                (subst (λ w. HoldsAt h u w m (there.sense.node x.root)) (sym there.var) (subst (λ n. HoldsAt h u assign m n) (sym root_goes ∙ sym (ap (λ w. w x.root) there.node)) holds_m))
-                k
-                (subst (λ w. Covers h program u sentence w (map (renamed there.sense.node) a.state.rest) to k) (sym there.var)
-                  (subst (λ ds. Covers h program u sentence assign ds to k) (ap (λ ds. map (renamed f) ds) (sym q) ∙ elements there.sense there.node) covers)))
+            (pended back.larger back.map g u ext.larger ext assign there m is
+            (subst (λ w. HoldsAt h u w m (there.sense.node x.root)) (sym there.var) (subst (λ n. HoldsAt h u assign m n) (sym root_goes ∙ sym (ap (λ w. w x.root) there.node)) holds_m))
+            k
+            (subst (λ w. Covers h program u sentence w (map (renamed there.sense.node) a.state.rest) to k) (sym there.var)
+            (subst (λ ds. Covers h program u sentence assign ds to k) (ap (λ ds. map (renamed f) ds) (sym q) ∙ elements there.sense there.node) covers)))
           where
             for_all : IsFor h program ok runs a u back.map assign
             for_all v n b =
@@ -172,11 +169,11 @@ module _ (h : Hierarchy) (program : Program) (ok : IsAccepted h program) (runs :
 
         says : (ds : List Element) → (extract x.root a).rest ≡ ds → Says h program sentence z g.larger f ds
         says [] q =
-            let none : a.state.rest ≡ [] = nothing_left (node_of a.closed) a.state.rest (p.rest ∙ ap (λ ds. map (renamed (extract x.root a).whole) ds) q) in
+            let none : a.state.rest ≡ [] = none_left (node_of a.closed) a.state.rest (p.rest ∙ ap (λ ds. map (renamed (extract x.root a).whole) ds) q) in
             subst (λ n. Spans h program g.larger sentence n x.from to) root_goes
-              (pended back.larger back.map g g.larger g.extends.larger (extends_self h g.larger g.extends.larger) (assign_by a back.map (back.map (node_of a.closed x.root))) here mother number
-                ((g.advances g.larger g.extends.larger (extends_self h g.larger g.extends.larger) (assign_by a back.map (back.map (node_of a.closed x.root))) here).mother mother number none)
-                to (subst (λ ds. Covers h program g.larger sentence (here.sense.var 0) (map (renamed here.sense.node) ds) to to) (sym none) (no_more (here.sense.var 0) to)))
+            (pended back.larger back.map g g.larger g.extends.larger (extends_self h g.larger g.extends.larger) (assign_by a back.map (back.map (node_of a.closed x.root))) here mother number
+            ((g.advances g.larger g.extends.larger (extends_self h g.larger g.extends.larger) (assign_by a back.map (back.map (node_of a.closed x.root))) here).mother mother number none)
+            to (subst (λ ds. Covers h program g.larger sentence (here.sense.var 0) (map (renamed here.sense.node) ds) to to) (sym none) (no_more (here.sense.var 0) to)))
         says (d ∷ ds) q = pends d ds q
 
   -- what an own search of an item gives is good, and what one with a daughter gives
@@ -204,9 +201,9 @@ module _ (h : Hierarchy) (program : Program) (ok : IsAccepted h program) (runs :
         Back h program ok runs st a s f (assign_by a f (f (node_of a.closed x.root)))
     goes_first st start leads a r s f str mor =
         r.back s f str mor (assign_by a f (f (node_of a.closed x.root)))
-          (assign_inside a s f (f (node_of a.closed x.root)) (mor.into (node_of a.closed x.root) (inside_all x.root (let far = start.far in let root = good.item.is.root_below in omega arith)))
-            (λ v n b. mor.into (node_of a.closed n) (let low = r.is.is.below 0 v n b in let longer = r.is.longer in r.is.nodes n (omega arith))))
-          (assign_bound a f (f (node_of a.closed x.root)))
+        (assign_inside a s f (f (node_of a.closed x.root)) (mor.into (node_of a.closed x.root) (inside_all x.root (let far = start.far in let root = good.item.is.root_below in omega arith)))
+        (λ v n b. mor.into (node_of a.closed n) (let low = r.is.is.below 0 v n b in let longer = r.is.longer in r.is.nodes n (omega arith))))
+        (assign_bound a f (f (node_of a.closed x.root)))
       where
         inside_all : (n : ℕ) → n < st.next → node_of a.closed n < count a.closed.graph
         inside_all n low = let next = r.is.next in let longer = r.is.longer in r.is.nodes n (omega arith)
@@ -257,10 +254,10 @@ module _ (h : Hierarchy) (program : Program) (ok : IsAccepted h program) (runs :
         grounded : (s : Structure) (f : ℕ → ℕ) → IsStructure h s → IsMorphismAside h a.closed.graph s f → Grounded x e es st a y.to s f
         grounded s f str mor = record {
           larger = second.larger;
-          extends = extends_on h s first.larger second.larger first.extends second.extends;
+          extends = extends_through h s first.larger second.larger first.extends second.extends;
           added = added_on h program first.larger second.larger second.extends s first.added second.added;
           imposed = λ n k given. pair n k (has_either (moved 0 x.kept.imposed) (moved (0 + count x.kept.graph) y.kept.imposed) (n, k) (subst (λ w. Has w (n, k)) shape.imposed given));
-          pending = λ u ext. (subst (Says h program sentence x first.larger (λ n. f (node_of a.closed n))) eq first.says) u (extends_on h first.larger second.larger u second.extends ext);
+          pending = λ u ext. (subst (Says h program sentence x first.larger (λ n. f (node_of a.closed n))) eq first.says) u (extends_through h first.larger second.larger u second.extends ext);
           advances = λ u u_str ext assign back. pair_advances h program u u_str back.sense x sentence e es a.state.rest y st (leads.down u back.sense a.state.rest u_str back.satisfies) begins
               (subst (λ w. Spans h program u sentence (w ((0 + count x.kept.graph) + y.root)) y.from y.to) (sym back.node) ((stays.stays_law h program second.larger u ext).spans sentence (f (node_of a.closed ((0 + count x.kept.graph) + y.root))) y.from y.to spans))
               has back.satisfies;

@@ -1,18 +1,17 @@
 -- The chart as it grows: each result of the searches of good items is good, each stands in the chart or is replaced, and
 -- where no search was cut off, all searches of the items that were processed were made to their ends.
-use Rattle.std.proofs.Common.{◌≡◌, ℕ, zero, suc, ◌+◌, ◌-◌, ◌≤◌, Bool, true, false, ◌&&◌, eqb, List, [], ◌∷◌, ◌++◌, map, length, ◌⊎◌, inl, inr, refl, sym, ap, ◌∙◌, subst, arith, if◌then◌else◌}
+use Rattle.std.proofs.Common.{◌≡◌, ℕ, zero, suc, Bool, true, false, eqb, List, [], ◌∷◌, ◌++◌, map, ◌⊎◌, inl, inr, refl, sym, subst, if◌then◌else◌}
 use Rattle.std.specs.List.{flat_map}
 use Rattle.std.proofs.lemmas.Bool.{and_parts, eqb-true}
-use Rattle.std.proofs.lemmas.List.{append-nil}
 use Rattle.ale_declared.specs.Lists.{Has}
+use Rattle.ale_declared.proofs.ListLemmas.{Has-flat_map, flat_map_has}
 use Rattle.ale_hierarchy.specs.Hierarchy.{Hierarchy}
 use Rattle.ale_graph.proofs.Lists.{has_left, has_right, has_either, has_map}
 use Rattle.ale_engine.specs.Engine.{search}
 use Rattle.ale_engine.specs.Growth.{Found, run_all}
-use Rattle.ale_engine.specs.GrowthLaws.{IsMade, HasRun, RunAllLaw, EngineLaw}
+use Rattle.ale_engine.specs.GrowthLaws.{IsMade, RunAllLaw}
 use Rattle.ale_engine.proofs.EngineLaw.{engine_law}
 use Rattle.ale_logic.specs.Programs.{Word, Element, Program}
-use Rattle.ale_logic.specs.Words.{Grammar}
 use Rattle.ale_logic.specs.States.{State}
 use Rattle.ale_logic.specs.Parts.{Extract}
 use Rattle.ale_logic.specs.PartLaws.{PartLaw}
@@ -22,8 +21,8 @@ use Rattle.ale_logic.specs.Visits.{Answer, visit}
 use Rattle.ale_logic.specs.Lexicons.{wordless}
 use Rattle.ale_logic.specs.Answers.{IsAccepted}
 use Rattle.ale_logic.specs.Starts.{ChartItem, own_start, daughter_start}
-use Rattle.ale_logic.specs.Charts.{ItemTask, item_of, item_task, own_tasks, daughter_tasks, pair_tasks, tasks_of, Keep, put_kept, Chart, items, after_item, process_first, processed}
-use Rattle.ale_logic.specs.ChartLaws.{Replaces, KeepLaw}
+use Rattle.ale_logic.specs.Charts.{ItemTask, item_task, own_tasks, daughter_tasks, pair_tasks, tasks_of, Keep, put_kept, Chart, items, after_item, process_first, processed}
+use Rattle.ale_logic.specs.ChartLaws.{Replaces}
 use Rattle.ale_chart_law.proofs.Items.{own_is, daughter_is}
 use Rattle.ale_chart_law.proofs.Searches.{came}
 use Rattle.ale_chart_law.proofs.Covering.{Stands, Ran}
@@ -34,18 +33,6 @@ pub data IsDue (extract : Extract) (program : Program) (before : List ChartItem)
   own_due : (t : ItemTask) → Has (own_tasks extract program x x.rest) t → IsDue extract program before x t
   takes_due : (t : ItemTask) (y : ChartItem) → Has before y → Has (daughter_tasks extract program x x.rest y y.rest) t → IsDue extract program before x t
   taken_due : (t : ItemTask) (y : ChartItem) → Has before y → Has (daughter_tasks extract program y y.rest x x.rest) t → IsDue extract program before x t
-
-flat_has : {A B : Type 0} (f : A → List B) (xs : List A) (y : B) → Has (flat_map f xs) y → (x : A) × Has xs x × Has (f x) y
-flat_has f [] y h = absurd h
-flat_has f (x ∷ xs) y h = elim (has_either (f x) (flat_map f xs) y h) [
-  | inl p ↦ (x, inl refl, p)
-  | inr p ↦ let r = flat_has f xs y p in (r.0, inr r.1, r.2)
-]
-
-has_flat : {A B : Type 0} (f : A → List B) (xs : List A) (x : A) (y : B) → Has xs x → Has (f x) y → Has (flat_map f xs) y
-has_flat f [] x y h p = absurd h
-has_flat f (z ∷ xs) x y (inl e) p = has_left (f z) (flat_map f xs) y (subst (λ w. Has (f w) y) e p)
-has_flat f (z ∷ xs) x y (inr h) p = has_right (f z) (flat_map f xs) y (has_flat f xs x y h p)
 
 module _ (extract : Extract) (program : Program) (before : List ChartItem) (x : ChartItem) where
   pub due : (t : ItemTask) → Has (tasks_of extract program before x) t → IsDue extract program before x t
@@ -58,7 +45,7 @@ module _ (extract : Extract) (program : Program) (before : List ChartItem) (x : 
       go : Has (own_tasks extract program x x.rest) t ⊎ Has (flat_map (pair_tasks extract program x) before) t → IsDue extract program before x t
       go (inl p) = own_due t p
       go (inr p) =
-          let r = flat_has (pair_tasks extract program x) before t p in
+          let r = flat_map_has (pair_tasks extract program x) before t p in
           pair r.0 r.1 (has_either (daughter_tasks extract program x x.rest r.0 r.0.rest) (daughter_tasks extract program r.0 r.0.rest x x.rest) t r.2)
 
   pub in_own : (t : ItemTask) → Has (own_tasks extract program x x.rest) t → Has (tasks_of extract program before x) t
@@ -67,12 +54,12 @@ module _ (extract : Extract) (program : Program) (before : List ChartItem) (x : 
   pub in_takes : (t : ItemTask) (y : ChartItem) → Has before y → Has (daughter_tasks extract program x x.rest y y.rest) t → Has (tasks_of extract program before x) t
   in_takes t y at p =
       has_right (own_tasks extract program x x.rest) (flat_map (pair_tasks extract program x) before) t
-        (has_flat (pair_tasks extract program x) before y t at (has_left (daughter_tasks extract program x x.rest y y.rest) (daughter_tasks extract program y y.rest x x.rest) t p))
+      (Has-flat_map (pair_tasks extract program x) before y t at (has_left (daughter_tasks extract program x x.rest y y.rest) (daughter_tasks extract program y y.rest x x.rest) t p))
 
   pub in_taken : (t : ItemTask) (y : ChartItem) → Has before y → Has (daughter_tasks extract program y y.rest x x.rest) t → Has (tasks_of extract program before x) t
   in_taken t y at p =
       has_right (own_tasks extract program x x.rest) (flat_map (pair_tasks extract program x) before) t
-        (has_flat (pair_tasks extract program x) before y t at (has_right (daughter_tasks extract program x x.rest y y.rest) (daughter_tasks extract program y y.rest x x.rest) t p))
+      (Has-flat_map (pair_tasks extract program x) before y t at (has_right (daughter_tasks extract program x x.rest y y.rest) (daughter_tasks extract program y y.rest x x.rest) t p))
 
 -- an item does not take itself
 takes_self : (extract : Extract) (program : Program) (x : ChartItem) (t : ItemTask) → Has (daughter_tasks extract program x x.rest x x.rest) t → ⊥
@@ -141,13 +128,11 @@ behind xs x y has = elim (has_either xs (x ∷ []) y has) [
 ]
 
 module _ (h : Hierarchy) (program : Program) (extract : Extract) (keep : Keep) where
-  abbrev words_less : Grammar
-  words_less = wordless h program
-
-  abbrev results : Chart → ChartItem → Found ChartItem
+  -- what the searches of an item find
+  abbrev pub results : Chart → ChartItem → Found ChartItem
   results c x = run_all (visit (wordless h program)) (tasks_of extract program c.done x) c.left
 
-  law : (c : Chart) (x : ChartItem) → RunAllLaw State Answer ChartItem (visit (wordless h program)) (tasks_of extract program c.done x) c.left
+  pub law : (c : Chart) (x : ChartItem) → RunAllLaw State Answer ChartItem (visit (wordless h program)) (tasks_of extract program c.done x) c.left
   law c x = (engine_law State Answer ChartItem (visit (wordless h program))).runs (tasks_of extract program c.done x) c.left
 
   -- items stay
@@ -237,7 +222,7 @@ module _ (h : Hierarchy) (program : Program) (ok : IsAccepted h program) (runs :
           of (st, at, is) =
               let found_st : Has (search (visit (wordless h program)) budget (st ∷ [])).answers a = subst (λ (w : ItemTask). Has (search (visit (wordless h program)) budget w.waiting).answers a) is found in
               subst (λ (w : ItemTask). IsGood h program sentence (w.made a)) (sym is)
-                (own_good h program ok runs puts extract part sentence x good e es eq st at a (came h program ok runs x st (own_is h program ok.lawful x good.item e es eq st at) budget a found_st))
+              (own_good h program ok runs puts extract part sentence x good e es eq st at a (came h program ok runs x st (own_is h program ok.lawful x good.item e es eq st at) budget a found_st))
 
   pair_found : (x y : ChartItem) → IsGood h program sentence x → IsGood h program sentence y → (t : ItemTask) → Has (daughter_tasks extract program x x.rest y y.rest) t → (budget : ℕ) (a : Answer) → Has (search (visit (wordless h program)) budget t.waiting).answers a → IsGood h program sentence (t.made a)
   pair_found x y good other t has budget a found = go x.rest refl y.rest refl has
@@ -251,7 +236,7 @@ module _ (h : Hierarchy) (program : Program) (ok : IsAccepted h program) (runs :
           of begins (st, at, is) =
               let found_st : Has (search (visit (wordless h program)) budget (st ∷ [])).answers a = subst (λ (w : ItemTask). Has (search (visit (wordless h program)) budget w.waiting).answers a) is found in
               subst (λ (w : ItemTask). IsGood h program sentence (w.made a)) (sym is)
-                (pair_good h program ok runs puts extract part sentence x good e es eq y other passive begins st at a (came h program ok runs x st (daughter_is h program ok.lawful x good.item e es eq y other.item st at) budget a found_st))
+              (pair_good h program ok runs puts extract part sentence x good e es eq y other passive begins st at a (came h program ok runs x st (daughter_is h program ok.lawful x good.item e es eq y other.item st at) budget a found_st))
 
           meets : (b : Bool) → eqb x.to y.from ≡ b → Has (if b then map (item_task extract x y.to) (daughter_start program x e es y) else []) t → IsGood h program sentence (t.made a)
           meets true q has = of (sym (eqb-true x.to y.from q)) (has_map (item_task extract x y.to) (daughter_start program x e es y) t has)

@@ -1,18 +1,17 @@
 -- Maps of nodes: one beside another, and morphisms that agree on the nodes of a structure.
-use Rattle.std.proofs.Common.{◌≡◌, ◌≢◌, ℕ, zero, suc, ◌+◌, ◌-◌, ◌<◌, ◌≤◌, Bool, true, false, ltb, IsTrue, List, [], ◌∷◌, ◌++◌, ◌⊎◌, inl, inr, refl, sym, ap, ◌∙◌, subst, arith, Some, if◌then◌else◌}
+use Rattle.std.proofs.Common.{◌≡◌, ℕ, ◌+◌, ◌-◌, ◌<◌, ◌≤◌, Bool, true, false, ltb, List, ◌++◌, ◌⊎◌, inl, inr, refl, sym, ap, ◌∙◌, subst, arith, if◌then◌else◌}
 use Rattle.std.proofs.Math.Path.{fun_ext}
 use Rattle.std.proofs.lemmas.Bool.{lt-ltb, le-ltb}
 use Rattle.ale_declared.specs.Lists.{Has}
-use Rattle.ale_hierarchy.specs.Hierarchy.{Hierarchy, IsLawful, Above}
+use Rattle.ale_hierarchy.specs.Hierarchy.{Hierarchy}
 use Rattle.ale_graph.specs.declared.fact.Fact.{Fact}
-use Rattle.ale_graph.specs.Structures.{Structure, IsStructure, count, type_of, value_of, is_formed}
+use Rattle.ale_graph.specs.Structures.{Structure, IsStructure, count}
 use Rattle.ale_graph.specs.Facts.{Holds, HoldsFact}
 use Rattle.ale_graph.specs.Morphisms.{IsMorphismAside}
 use Rattle.ale_graph.proofs.Lists.{has_either}
-use Rattle.ale_graph.proofs.Structures.{value_from, value_inside}
 use Rattle.ale_logic.specs.Putting.{graph_facts}
 use Rattle.ale_logic.specs.PutLaws.{PutLaws}
-use Rattle.ale_chart_law.proofs.GraphFacts.{formed_pairs}
+use Rattle.ale_extension_law.proofs.Through.{along_nodes}
 
 -- f below c, and g from c on
 abbrev pub beside : ℕ → (ℕ → ℕ) → (ℕ → ℕ) → ℕ → ℕ
@@ -42,24 +41,6 @@ beside_at c f m = beside_high c f (λ k. m) c (omega arith)
 pub from_zero : (to : ℕ → ℕ) → (λ n. to (0 + n)) ≡ to
 from_zero to = fun_ext (λ n. ap to (omega arith))
 
--- a map that is a morphism's on the nodes is one
-pub agreeing : (h : Hierarchy) (g s : Structure) (f to : ℕ → ℕ) → IsTrue (is_formed g) → IsMorphismAside h g s f → ((n : ℕ) → n < count g → to n ≡ f n) → IsMorphismAside h g s to
-agreeing h g s f to formed mor same = record {
-  into = λ n low. subst (λ z. z < count s) (sym (same n low)) (mor.into n low);
-  types = λ n low. subst (λ z. Above h (type_of g n) (type_of s z)) (sym (same n low)) (mor.types n low);
-  values = λ n k m e. value n k m e (value_from g n k m e) (value_inside g formed n k m e);
-  differs = λ a b has. apart a b has (formed_pairs g formed a b has);
-}
-  where
-    value : (n k m : ℕ) → value_of g n k ≡ Some m → n < count g → m < count g → value_of s (to n) k ≡ Some (to m)
-    value n k m e one two = ap (λ z. value_of s z k) (same n one) ∙ mor.values n k m e ∙ ap Some (sym (same m two))
-
-    apart : (a b : ℕ) → Has g.differ (a, b) → (a < count g) × (b < count g) → to a ≢ to b
-    apart a b has low e = mor.differs a b has (sym (same a low.0) ∙ e ∙ same b low.1)
-
-pub self_morphism : (h : Hierarchy) (s : Structure) → IsLawful h → IsStructure h s → IsMorphismAside h s s (λ n. n)
-self_morphism h s law str = record { into = λ n low. low; types = λ n low. law.along_self (type_of s n); values = λ n f m e. e; differs = str.apart }
-
 pub holds_both : (h : Hierarchy) (s : Structure) (to : ℕ → ℕ) (xs ys : List Fact) → Holds h s to xs → Holds h s to ys → Holds h s to (xs ++ ys)
 holds_both h s to xs ys one two x has = go (has_either xs ys x has)
   where
@@ -71,7 +52,7 @@ module _ (puts : PutLaws) (h : Hierarchy) (s : Structure) where
   -- the facts of a structure hold under each map that is a morphism's on its nodes
   pub put_first : (g : Structure) (f to : ℕ → ℕ) → IsStructure h g → IsMorphismAside h g s f → ((n : ℕ) → n < count g → to n ≡ f n) → Holds h s to (graph_facts 0 g)
   put_first g f to str mor same =
-      (puts h s to 0 g).up str.formed (subst (IsMorphismAside h g s) (sym (from_zero to)) (agreeing h g s f to str.formed mor same))
+      (puts h s to 0 g).up str.formed (subst (IsMorphismAside h g s) (sym (from_zero to)) (along_nodes h g s f to str mor same))
 
   pub put_from : (by : ℕ) (g : Structure) (f to : ℕ → ℕ) → IsStructure h g → IsMorphismAside h g s f → ((n : ℕ) → n < count g → to (by + n) ≡ f n) → Holds h s to (graph_facts by g)
-  put_from by g f to str mor same = (puts h s to by g).up str.formed (agreeing h g s f (λ n. to (by + n)) str.formed mor same)
+  put_from by g f to str mor same = (puts h s to by g).up str.formed (along_nodes h g s f (λ n. to (by + n)) str mor same)

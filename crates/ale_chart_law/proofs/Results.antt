@@ -1,5 +1,5 @@
 -- What is kept of an answer of a search of an item, its own or with another, is an item again.
-use Rattle.std.proofs.Common.{◌≡◌, ℕ, zero, suc, ◌+◌, ◌<◌, ◌≤◌, List, [], ◌∷◌, ◌++◌, map, length, ◌⊎◌, inl, inr, refl, sym, ap, ◌∙◌, subst, arith, Option, Some, None}
+use Rattle.std.proofs.Common.{◌≡◌, ℕ, ◌+◌, ◌<◌, List, [], ◌∷◌, ◌++◌, length, ◌⊎◌, inl, inr, refl, sym, ap, ◌∙◌, subst, arith, Option, Some, None}
 use Rattle.ale_declared.specs.Lists.{Has}
 use Rattle.ale_hierarchy.specs.Hierarchy.{Hierarchy, Above, IsLawful}
 use Rattle.ale_graph.specs.Structures.{Structure, IsStructure, count, type_of, value_of}
@@ -7,7 +7,6 @@ use Rattle.ale_graph.specs.Morphisms.{IsMorphismAside}
 use Rattle.ale_graph.specs.Closure.{node_of}
 use Rattle.ale_graph.proofs.Lists.{has_left, has_right, has_map, none_some}
 use Rattle.ale_engine.proofs.Lists.{in_map}
-use Rattle.ale_graph.proofs.Structures.{value_from}
 use Rattle.ale_logic.specs.Descriptions.{Description, IsAssignment, FitsDescription}
 use Rattle.ale_logic.specs.Programs.{Element, cat, cats, derived, sem_head, member, tail, ListTypes, Program}
 use Rattle.ale_logic.specs.Fitting.{IsPlainElement, FitLists}
@@ -25,12 +24,13 @@ use Rattle.ale_logic.specs.Visits.{Answer}
 use Rattle.ale_logic.specs.Lexicons.{wordless}
 use Rattle.ale_logic.specs.Answers.{IsAccepted}
 use Rattle.ale_logic.specs.StartLaws.{FitsRemaining}
-use Rattle.ale_logic.specs.Starts.{ChartItem, end_of, end_items, split_at, own_start, side_by_side, root_beside, same_as, daughter_start}
+use Rattle.ale_logic.specs.Starts.{ChartItem, end_of, end_items, own_start, side_by_side, root_beside, same_as, daughter_start}
 use Rattle.ale_logic.specs.Charts.{item_of}
+use Rattle.ale_run_law.proofs.First.{stands}
 use Rattle.ale_chart_law.proofs.Items.{FitsLeft, IsThere, IsLeft, IsActive, IsItem, IsStart, later_left}
-use Rattle.ale_chart_law.proofs.Maps.{from_zero, self_morphism}
-use Rattle.ale_chart_law.proofs.Searches.{IsFor, Back, Came, part_of}
-use Rattle.ale_chart_law.proofs.Advancing.{OwnShape, own_shape, PairShape, pair_shape, hd_on, tl_on, Advances, own_advances}
+use Rattle.ale_chart_law.proofs.Maps.{from_zero}
+use Rattle.ale_chart_law.proofs.Searches.{Back, Came, part_of}
+use Rattle.ale_chart_law.proofs.Advancing.{OwnShape, own_shape, PairShape, pair_shape, hd_on, tl_on, own_advances}
 
 -- where a variable's node goes, and a node for one that is unbound
 abbrev pub assign_by : Answer → (ℕ → ℕ) → ℕ → ℕ → ℕ
@@ -133,21 +133,21 @@ module _ (h : Hierarchy) (program : Program) (ok : IsAccepted h program) (puts :
   own_down x st shape u z remain sat =
       let far = shape.far in
       subst (IsMorphismAside h x.kept.graph u) (from_zero z.node)
-        ((puts h u z.node 0 x.kept.graph).down (λ n low. sat.fulfils.into (0 + n) (omega arith)) (λ f has. sat.fulfils.holds f (subst (λ fs. Has fs f) (sym shape.facts) has)))
+      ((puts h u z.node 0 x.kept.graph).down (λ n low. sat.fulfils.into (0 + n) (omega arith)) (λ f has. sat.fulfils.holds f (subst (λ fs. Has fs f) (sym shape.facts) has)))
 
   pub pair_down : (x y : ChartItem) (st : State) → PairShape x y st → (u : Structure) (z : Sense) (remain : List Element) → Satisfies (wordless h program) u z st remain → IsMorphismAside h x.kept.graph u z.node
   pair_down x y st shape u z remain sat =
       let far = shape.far in
       subst (IsMorphismAside h x.kept.graph u) (from_zero z.node)
-        ((puts h u z.node 0 x.kept.graph).down (λ n low. sat.fulfils.into (0 + n) (omega arith))
-          (λ f has. sat.fulfils.holds f (subst (λ fs. Has fs f) (sym shape.facts) (has_left (graph_facts 0 x.kept.graph ++ graph_facts (0 + count x.kept.graph) y.kept.graph) shape.more f (has_left (graph_facts 0 x.kept.graph) (graph_facts (0 + count x.kept.graph) y.kept.graph) f has)))))
+      ((puts h u z.node 0 x.kept.graph).down (λ n low. sat.fulfils.into (0 + n) (omega arith))
+      (λ f has. sat.fulfils.holds f (subst (λ fs. Has fs f) (sym shape.facts) (has_left (graph_facts 0 x.kept.graph ++ graph_facts (0 + count x.kept.graph) y.kept.graph) shape.more f (has_left (graph_facts 0 x.kept.graph) (graph_facts (0 + count x.kept.graph) y.kept.graph) f has)))))
 
   -- and of the other item
   pub other_down : (x y : ChartItem) (st : State) → PairShape x y st → (u : Structure) (z : Sense) (remain : List Element) → Satisfies (wordless h program) u z st remain → IsMorphismAside h y.kept.graph u (λ n. z.node ((0 + count x.kept.graph) + n))
   other_down x y st shape u z remain sat =
       let far = shape.far in
       (puts h u z.node (0 + count x.kept.graph) y.kept.graph).down (λ n low. sat.fulfils.into ((0 + count x.kept.graph) + n) (omega arith))
-        (λ f has. sat.fulfils.holds f (subst (λ fs. Has fs f) (sym shape.facts) (has_left (graph_facts 0 x.kept.graph ++ graph_facts (0 + count x.kept.graph) y.kept.graph) shape.more f (has_right (graph_facts 0 x.kept.graph) (graph_facts (0 + count x.kept.graph) y.kept.graph) f has))))
+      (λ f has. sat.fulfils.holds f (subst (λ fs. Has fs f) (sym shape.facts) (has_left (graph_facts 0 x.kept.graph ++ graph_facts (0 + count x.kept.graph) y.kept.graph) shape.more f (has_right (graph_facts 0 x.kept.graph) (graph_facts (0 + count x.kept.graph) y.kept.graph) f has))))
 
   pub own_leads : (x : ChartItem) (e : Element) (es : List Element) (st : State) → Has (own_start program x e es) st → Leads x es st
   own_leads x e es st has = record {
@@ -203,7 +203,7 @@ module _ (h : Hierarchy) (program : Program) (ok : IsAccepted h program) (puts :
         root_inside = let next = r.is.next in inside x.root (omega arith)
 
         here : Back h program ok runs st a a.closed.graph (λ n. n) (assign_by a (λ n. n) (node_of a.closed x.root))
-        here = r.back a.closed.graph (λ n. n) r.is.structure (self_morphism h a.closed.graph ok.lawful r.is.structure) (assign_by a (λ n. n) (node_of a.closed x.root))
+        here = r.back a.closed.graph (λ n. n) r.is.structure (stands h ok.lawful a.closed.graph r.is.structure) (assign_by a (λ n. n) (node_of a.closed x.root))
             (assign_inside a a.closed.graph (λ n. n) (node_of a.closed x.root) root_inside (λ v n b. inside n (r.is.is.below 0 v n b))) (assign_bound a (λ n. n) (node_of a.closed x.root))
 
         goes : IsMorphismAside h x.kept.graph a.closed.graph (node_of a.closed)

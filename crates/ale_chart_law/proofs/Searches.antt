@@ -1,46 +1,31 @@
 -- One search from the start of an item: what always holds of its answers and of what is kept of them, where a model
 -- arrives, and what a structure into which the answer's graph goes satisfies.
-use Rattle.std.proofs.Common.{◌≡◌, ℕ, zero, suc, ◌+◌, ◌<◌, ◌≤◌, true, List, [], ◌∷◌, map, length, ◌⊎◌, inl, inr, refl, sym, ap, ◌∙◌, subst, arith, Option, Some, None}
+use Rattle.std.proofs.Common.{◌≡◌, ℕ, ◌<◌, true, List, [], ◌∷◌, map, length, ◌⊎◌, inl, inr, refl, sym, ap, ◌∙◌, subst, arith, Option, Some, None}
 use Rattle.std.proofs.Math.Path.{fun_ext}
 use Rattle.ale_declared.specs.Lists.{Has}
 use Rattle.ale_hierarchy.specs.Hierarchy.{Hierarchy}
-use Rattle.ale_graph.specs.Structures.{Structure, IsStructure, count}
+use Rattle.ale_graph.specs.Structures.{Structure, IsStructure}
 use Rattle.ale_graph.specs.Morphisms.{IsMorphismAside}
 use Rattle.ale_graph.specs.Closure.{node_of}
-use Rattle.ale_graph.proofs.Lists.{has_map, none_some, some_one}
-use Rattle.ale_logic.specs.Programs.{Word, Element, cat, cats, derived, sem_head, member, tail, Program}
+use Rattle.ale_logic.specs.Programs.{Element, cat, cats, derived, sem_head, member, tail, Program}
+use Rattle.ale_logic.specs.Fitting.{FitsElement}
 use Rattle.ale_logic.specs.Models.{MeetsAt, IsModel}
 use Rattle.ale_logic.specs.Descriptions.{IsAssignment}
 use Rattle.ale_logic.specs.Words.{Environment, bound_in, Grammar}
-use Rattle.ale_logic.specs.States.{Piece, env_at, bound, State}
-use Rattle.ale_logic.specs.Spelling.{spell}
+use Rattle.ale_logic.specs.States.{Piece, bound, State}
 use Rattle.ale_logic.specs.Satisfaction.{Sense, Satisfies}
-use Rattle.ale_logic.specs.WellFormed.{FitsRest, IsState, scope_of, ArePlainItems}
+use Rattle.ale_logic.specs.WellFormed.{IsState, ArePlainItems}
 use Rattle.ale_logic.specs.Steps.{IsGrammar, IsAccounted, IsInFragment}
 use Rattle.ale_logic.specs.Runs.{FreeSense, Returns, IsAnswer, IsInto, AreInFragment, ComesFrom, IsReached, RunLaw, RunLaws}
 use Rattle.ale_engine.specs.Engine.{search}
 use Rattle.ale_logic.specs.Visits.{Answer, visit}
-use Rattle.ale_logic.specs.Parts.{Part, Extract, renamed, placed, kept_answer}
-use Rattle.ale_logic.specs.PartLaws.{IsElementBelow, AreElementsBelow, IsPart, IsKeepable, PartLaw}
+use Rattle.ale_logic.specs.Parts.{Part, Extract, renamed}
+use Rattle.ale_logic.specs.PartLaws.{IsElementBelow, AreElementsBelow, IsPart, PartLaw}
 use Rattle.ale_logic.specs.Lexicons.{wordless}
 use Rattle.ale_logic.specs.Answers.{IsAccepted}
 use Rattle.ale_logic.specs.Starts.{ChartItem}
+use Rattle.ale_run_law.proofs.Kept.{keepable}
 use Rattle.ale_chart_law.proofs.Items.{IsStart}
-
--- a variable of a renamed environment is bound to the renamed node
-pub placed_bound : (to : ℕ → ℕ) (env : Environment) (v n : ℕ) → bound_in (map (placed to) env) v ≡ Some n → (m : ℕ) × (bound_in env v ≡ Some m) × (n ≡ to m)
-placed_bound to [] v n e = absurd (none_some e)
-placed_bound to (None ∷ env) zero n e = absurd (none_some e)
-placed_bound to (Some m ∷ env) zero n e = (m, refl, sym (some_one e))
-placed_bound to (o ∷ env) (suc v) n e = placed_bound to env v n e
-
-renamed_below : (h : Hierarchy) (st : State) (a : Answer) (e : Element) → FitsRest h (scope_of st) e → ((n : ℕ) → n < st.next → node_of a.closed n < count a.closed.graph) → IsElementBelow (count a.closed.graph) (renamed (node_of a.closed) e)
-renamed_below h st a (cat d) fit low = tt
-renamed_below h st a (cats d) fit low = tt
-renamed_below h st a (sem_head d) fit low = tt
-renamed_below h st a (derived g) fit low = tt
-renamed_below h st a (member n) fit low = low n fit
-renamed_below h st a (tail n) fit low = low n fit
 
 -- an element renamed twice
 pub renamed_twice : (f g : ℕ → ℕ) (es : List Element) → map (renamed g) (map (renamed f) es) ≡ map (renamed (λ n. g (f n))) es
@@ -64,6 +49,23 @@ renamed_same f g n same (e ∷ es) low = go e (low e (inl refl)) (renamed_same f
     go (derived x) b ih = ap (λ z. derived x ∷ z) ih
     go (member k) b ih = ap (λ z. member z ∷ map (renamed f) es) (same k b) ∙ ap (λ z. member (g k) ∷ z) ih
     go (tail k) b ih = ap (λ z. tail z ∷ map (renamed f) es) (same k b) ∙ ap (λ z. tail (g k) ∷ z) ih
+
+pub none_left : (f : ℕ → ℕ) (xs : List Element) → map (renamed f) xs ≡ [] → xs ≡ []
+none_left f [] p = refl
+none_left f (x ∷ xs) p = absurd cc
+
+-- a rule's elements name no nodes
+pub rule_renamed : (h : Hierarchy) (f : ℕ → ℕ) (slots : ℕ) (es : List Element) → ((e : Element) → Has es e → FitsElement h slots e) → map (renamed f) es ≡ es
+rule_renamed h f slots [] fit = refl
+rule_renamed h f slots (e ∷ es) fit = go e (fit e (inl refl)) (rule_renamed h f slots es (λ d has. fit d (inr has)))
+  where
+    go : (d : Element) → FitsElement h slots d → map (renamed f) es ≡ es → renamed f d ∷ map (renamed f) es ≡ d ∷ es
+    go (cat x) b ih = ap (λ z. cat x ∷ z) ih
+    go (cats x) b ih = ap (λ z. cats x ∷ z) ih
+    go (sem_head x) b ih = ap (λ z. sem_head x ∷ z) ih
+    go (derived x) b ih = ap (λ z. derived x ∷ z) ih
+    go (member n) b ih = absurd b
+    go (tail n) b ih = absurd b
 
 module _ (h : Hierarchy) (program : Program) (ok : IsAccepted h program) (runs : RunLaws) where
   abbrev pub gr : Grammar
@@ -135,7 +137,7 @@ module _ (h : Hierarchy) (program : Program) (ok : IsAccepted h program) (runs :
           at : (z : State) → Has (st ∷ []) z → IsAnswer gr z a → (IsInFragment gr z → (s : Structure) (to : ℕ → ℕ) → IsInto gr a s to → (free : FreeSense s a) → Returns gr s z a to free) → Came st a
           at z (inl e) is back =
               came_at x st start a (subst (λ (y : State). IsAnswer gr y a) e is)
-                (subst (λ (y : State). (s : Structure) (to : ℕ → ℕ) → IsInto gr a s to → (free : FreeSense s a) → Returns gr s y a to free) e (back (fragment z e)))
+              (subst (λ (y : State). (s : Structure) (to : ℕ → ℕ) → IsInto gr a s to → (free : FreeSense s a) → Returns gr s y a to free) e (back (fragment z e)))
           at z (inr e) is back = absurd e
 
   module _ (extract : Extract) (part : PartLaw h program extract) where
@@ -143,28 +145,7 @@ module _ (h : Hierarchy) (program : Program) (ok : IsAccepted h program) (runs :
     pub part_of : (st : State) (a : Answer) → IsAnswer gr st a → (root : ℕ) → root < st.next → IsPart h program root a (extract root a)
     part_of st a is root low =
         let next = is.next in
-        let longer = is.longer in
-        part root a (record {
-          is = record {
-            structure = is.structure;
-            root_below = is.nodes root (omega arith);
-            env_below = λ v n e. env v n (placed_bound (node_of a.closed) (env_at a.state.envs 0) v n e);
-            imposed_below = λ n k has. pair n k (has_map (λ (p : ℕ × ℕ). (node_of a.closed p.0, p.1)) a.state.imposed (n, k) has);
-          };
-          rest_below = λ e has. elements e (has_map (renamed (node_of a.closed)) a.state.rest e has);
-        })
-      where
-        inside : (n : ℕ) → n < a.state.next → node_of a.closed n < count a.closed.graph
-        inside n low = let longer = is.longer in is.nodes n (omega arith)
-
-        env : (v n : ℕ) → (m : ℕ) × (bound_in (env_at a.state.envs 0) v ≡ Some m) × (n ≡ node_of a.closed m) → n < count a.closed.graph
-        env v n r = subst (λ z. z < count a.closed.graph) (sym r.2) (inside r.0 (is.is.below 0 v r.0 r.1))
-
-        pair : (n k : ℕ) → (p : ℕ × ℕ) × Has a.state.imposed p × (◌≡◌ {A = ℕ × ℕ} (n, k) (node_of a.closed p.0, p.1)) → n < count a.closed.graph
-        pair n k r = subst (λ z. z < count a.closed.graph) (sym (ap (λ (z : ℕ × ℕ). z.0) r.2)) (inside r.0.0 (is.is.imposed r.0.0 r.0.1 r.1))
-
-        elements : (e : Element) → (d : Element) × Has a.state.rest d × (e ≡ renamed (node_of a.closed) d) → IsElementBelow (count a.closed.graph) e
-        elements e r = subst (IsElementBelow (count a.closed.graph)) (sym r.2) (renamed_below h a.state a r.0 (is.is.rest r.0 r.1) inside)
+        part root a (keepable gr st a is root (omega arith))
 
     -- what is kept of an answer goes into the model, as the sense says of the start
     pub record Arrives (s : Structure) (x : ChartItem) (p : Part) (z : Sense) (remain : List Element) : Type 0 where

@@ -1,34 +1,33 @@
 -- The law of the chart: its items are sound, a finished one with all words covers whatever spans in a model, and a Keep
 -- that replaces what it drops loses nothing.
-use Rattle.std.proofs.Common.{◌≡◌, ℕ, suc, ◌+◌, ◌<◌, ◌≤◌, true, false, List, [], ◌∷◌, ◌++◌, map, length, ◌⊎◌, inl, inr, refl, sym, ap, ◌∙◌, subst, arith, Some}
+use Rattle.std.proofs.Common.{◌≡◌, ℕ, suc, ◌+◌, List, [], ◌++◌, map, length, ap, ◌∙◌, subst, arith, Some}
 use Rattle.std.proofs.lemmas.List.{append-nil}
 use Rattle.ale_declared.specs.Lists.{Has}
-use Rattle.ale_hierarchy.specs.Hierarchy.{Hierarchy, Above}
-use Rattle.ale_graph.specs.Structures.{Structure, IsStructure, count, type_of}
+use Rattle.ale_hierarchy.specs.Hierarchy.{Hierarchy}
+use Rattle.ale_graph.specs.Structures.{Structure, IsStructure}
 use Rattle.ale_graph.specs.Morphisms.{IsMorphismAside}
 use Rattle.ale_morphism.specs.VisibleLaws.{VisibleLaw}
-use Rattle.ale_logic.specs.Programs.{Word, Constraint, Program}
-use Rattle.ale_logic.specs.Models.{constraint_at, IsModel}
+use Rattle.ale_logic.specs.Programs.{Word, Program}
 use Rattle.ale_logic.specs.Words.{Words}
 use Rattle.ale_logic.specs.Spans.{Spans}
 use Rattle.ale_logic.specs.Solutions.{SolvesSentence}
 use Rattle.ale_logic.specs.Growing.{GrowsTo}
-use Rattle.ale_logic.specs.Extending.{HasSoundExtension, OwesNothing}
+use Rattle.ale_logic.specs.Extending.{HasSoundExtension}
 use Rattle.ale_logic.specs.Parts.{Extract}
 use Rattle.ale_logic.specs.PartLaws.{PartLaw}
 use Rattle.ale_logic.specs.Runs.{RunLaws}
 use Rattle.ale_logic.specs.Lexicons.{wordless}
-use Rattle.ale_logic.specs.LexiconLaws.{AreSoundWords, AreAllWords}
+use Rattle.ale_logic.specs.LexiconLaws.{AreSoundWords}
 use Rattle.ale_logic.specs.Answers.{IsAccepted}
 use Rattle.ale_logic.specs.Starts.{ChartItem}
 use Rattle.ale_logic.specs.Charts.{Keep, keep_all, Chart, items, initial_items, first_chart, processed, chart}
-use Rattle.ale_logic.specs.ChartLaws.{IsSoundPassive, IsSoundItem, CoversAll, IsFull, IsSubsumed, LosesNothing, ChartLaw, ChartLaws}
+use Rattle.ale_logic.specs.ChartLaws.{IsSoundPassive, IsSoundItem, CoversAll, IsFull, IsSubsumed, ChartLaw, ChartLaws}
 use Rattle.ale_extension_law.proofs.Grows.{grows, sound_model}
 use Rattle.ale_extension_law.proofs.Puts.{put_law}
+use Rattle.ale_run_law.proofs.First.{stands}
 use Rattle.ale_chart_law.proofs.Items.{rest_below}
-use Rattle.ale_chart_law.proofs.Maps.{self_morphism}
 use Rattle.ale_chart_law.proofs.Covering.{IsClosedChart, span_on}
-use Rattle.ale_chart_law.proofs.Good.{Rises, Says, IsGood}
+use Rattle.ale_chart_law.proofs.Good.{Says, IsGood}
 use Rattle.ale_chart_law.proofs.Grown.{items_stay, AreMade, all_made, all_good}
 use Rattle.ale_chart_law.proofs.Beginning.{first_good, word_there, between_there, rule_there}
 use Rattle.ale_engine.proofs.Lists.{has_left, in_map}
@@ -59,7 +58,7 @@ module _ (runs : RunLaws) (visible : VisibleLaw) (extract : Extract) (h : Hierar
 
   -- and in one of its own structure
   own_spans : (x : ChartItem) → IsGood h program sentence x → x.rest ≡ [] → HasSoundExtension h program x.kept x.kept.graph (λ n. n) (λ t. Spans h program t sentence x.root x.from x.to)
-  own_spans x g none = spans x g none x.kept.graph (λ n. n) g.item.is.structure (self_morphism h x.kept.graph ok.lawful g.item.is.structure)
+  own_spans x g none = spans x g none x.kept.graph (λ n. n) g.item.is.structure (stands h ok.lawful x.kept.graph g.item.is.structure)
 
   sound_passive : (x : ChartItem) → IsGood h program sentence x → x.rest ≡ [] → IsSoundPassive h program sentence x
   sound_passive x g none = record {
@@ -71,9 +70,9 @@ module _ (runs : RunLaws) (visible : VisibleLaw) (extract : Extract) (h : Hierar
       solved : x.from ≡ 0 → x.to ≡ length sentence → GrowsTo h x.kept.graph x.root (λ t. SolvesSentence h program sentence t x.root)
       solved from to =
           grows visible h program x.kept x.root (λ t. Spans h program t sentence x.root x.from x.to) (λ t. SolvesSentence h program sentence t x.root) g.item.is (g.owes none) (own_spans x g none)
-            (λ t model more says.
-                let low = g.item.is.root_below in
-                (record { model = model; node = omega arith }, subst (λ i. Spans h program t sentence x.root i (length sentence)) from (subst (λ k. Spans h program t sentence x.root x.from k) to says)))
+          (λ t model more says.
+          let low = g.item.is.root_below in
+          (record { model = model; node = omega arith }, subst (λ i. Spans h program t sentence x.root i (length sentence)) from (subst (λ k. Spans h program t sentence x.root x.from k) to says)))
 
   sound_item : (x : ChartItem) → IsGood h program sentence x → IsSoundItem h program sentence x
   sound_item x g = record { is = g.item.is; rest_below = rest_below h program x g.item; places = (g.ordered, g.place); passive = λ none. sound_passive x g none }
@@ -105,8 +104,8 @@ module _ (runs : RunLaws) (visible : VisibleLaw) (extract : Extract) (h : Hierar
       at_empty = λ i low e has.
           let same : i ≡ 0 + i = omega arith in
           stays (passive_of i i e)
-            (between_there program words 0 sentence i low (passive_of i i e)
-              (subst (λ n. Has (between words program n) (passive_of i i e)) same (has_left (map (passive_of i i) words.empties) (rules_from i 0 program.rules) (passive_of i i e) (in_map (passive_of i i) words.empties e has))));
+          (between_there program words 0 sentence i low (passive_of i i e)
+          (subst (λ n. Has (between words program n) (passive_of i i e)) same (has_left (map (passive_of i i) words.empties) (rules_from i 0 program.rules) (passive_of i i e) (in_map (passive_of i i) words.empties e has))));
       at_rule = λ i low r has.
           let same : i ≡ 0 + i = omega arith in
           let t = rule_there program words i r has in

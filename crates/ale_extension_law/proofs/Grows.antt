@@ -1,8 +1,8 @@
 -- What owes nothing grows to a model: an extension of its own graph in which it is sound is one, and shows the same.
-use Rattle.std.proofs.Common.{◌≡◌, ℕ, ◌<◌, ◌≤◌, List, [], ◌∷◌, ◌⊎◌, inl, inr, refl, sym, subst, arith, Option, Some, None}
+use Rattle.std.proofs.Common.{◌≡◌, ℕ, ◌<◌, ◌≤◌, [], ◌∷◌, ◌⊎◌, inl, inr, sym, subst, arith, Some}
 use Rattle.ale_declared.specs.Lists.{Has}
 use Rattle.ale_hierarchy.specs.Hierarchy.{Hierarchy, Above}
-use Rattle.ale_graph.specs.Structures.{Structure, IsStructure, count, type_of}
+use Rattle.ale_graph.specs.Structures.{Structure, count, type_of}
 use Rattle.ale_graph.specs.Extensions.{Extends}
 use Rattle.ale_morphism.specs.VisibleLaws.{VisibleLaw}
 use Rattle.ale_logic.specs.Programs.{Constraint, Program}

@@ -21,9 +21,9 @@ use Rattle.ale_logic.specs.Satisfaction.{Satisfies}
 use Rattle.ale_logic.specs.Visits.{Answer}
 use Rattle.ale_logic.specs.Parts.{Part, Extract}
 use Rattle.ale_logic.specs.Lexicons.{wordless, entry_of}
-use Rattle.ale_logic.specs.Runs.{RunLaws}
+use Rattle.ale_logic.specs.Runs.{FreeSense, Returns, MeetsPairs, RunLaws}
 use Rattle.ale_logic.specs.Extending.{HasSoundExtension, OwesNothing}
-use Rattle.ale_logic.specs.PartLaws.{IsPart, PartLaw}
+use Rattle.ale_logic.specs.PartLaws.{IsReattached, IsPart, PartLaw}
 use Rattle.ale_logic.specs.Answers.{IsAccepted, found_from}
 use Rattle.ale_logic.specs.LexiconLaws.{IsSoundAs}
 use Rattle.ale_extension_law.proofs.Stays as stays
@@ -32,7 +32,7 @@ use Rattle.ale_run_law.proofs.First.{Came, free_at, root_inside}
 use Rattle.ale_run_law.proofs.Answers as answers
 use Rattle.ale_run_law.proofs.Kept.{keepable, owes_nothing}
 use Rattle.ale_run_law.proofs.Rises.{rise_on, all_met_on}
-use Rattle.ale_lexicon_law.proofs.RuleStart.{rule_starts, rule_plain, rule_imposed, rule_rest, rule_said, rule_next, rule_down, sense, last_node, rule_up}
+use Rattle.ale_lexicon_law.proofs.RuleStart.{rule_starts, rule_plain, rule_imposed, rule_rest, rule_said, rule_next, FitsThere, rule_down, sense, last_node, rule_up}
 
 -- an entry of this level: whole, owing nothing, and lexical wherever it goes, in a sound extension
 pub record IsEntryAt (h : Hierarchy) (program : Program) (level : ℕ) (e : Entry) : Type 0 where
@@ -72,50 +72,76 @@ module _ (runs : RunLaws) (extract : Extract) (h : Hierarchy) (program : Program
     abbrev part : Part
     part = extract (count x.kept.graph) a
 
-    module _ (sound : IsSoundAs h program x (λ t n. LexicalAt h program t x.level x.word n)) where
-      lexical_there : (s : Structure) (to : ℕ → ℕ) → IsStructure h s → IsMorphismAside h part.kept.graph s to → HasSoundExtension h program part.kept s to (λ t. LexicalAt h program t (suc x.level) w (to part.root))
-      lexical_there s to str m =
-          let c = arrived a has in
-          let p = part_of a has in
-          let r = p.reattached s to str m in
-          let low : r.map (node_of a.closed 0) < count r.larger = r.is.into (node_of a.closed 0) (root_inside gr (start_lex rule x) a c 0 starts.is.is.some_node) in
-          let free = free_at r.larger a (λ e v. r.map (node_of a.closed 0)) (λ e v. low) (c.is.said starts.quiet ∙ rule_said h rule x) in
-          let back = answers.returned runs h program accepted (start_lex rule x) starts plain budget a has r.larger r.map r.extends.larger r.is free in
-          let fits = rule_down gr rule x r.larger back.sense a.state.rest back.satisfies in
-          let t = sound r.larger (λ n. back.sense.node (0 + n)) r.extends.larger fits.goes in
+    -- where the part goes, the whole goes into an extension, in which the entry goes too and the rule fits
+    module _ (s : Structure) (to : ℕ → ℕ) (p : IsPart h program (count x.kept.graph) a part) (r : IsReattached h a part s to) (free : FreeSense r.larger a) (back : Returns gr r.larger (start_lex rule x) a r.map free) where
+      fits : FitsThere h program rule x r.larger back.sense.node (back.sense.var 0)
+      fits = rule_down gr rule x r.larger back.sense a.state.rest back.satisfies
+
+      -- the root goes where the output's node goes
+      out : back.sense.node (0 + count x.kept.graph) ≡ to part.root
+      out =
+          let same : 0 + count x.kept.graph ≡ count x.kept.graph = omega arith in
+          ap back.sense.node same ∙ back.node (count x.kept.graph) ∙ ap r.map (sym p.root_is) ∙ r.agrees part.root p.is.root_below
+
+      out_inside : back.sense.node (0 + count x.kept.graph) < count r.larger
+      out_inside = back.satisfies.fulfils.into (0 + count x.kept.graph) (let first = rule_next h rule x in omega arith)
+
+      input : HoldsAt h r.larger (back.sense.var 0) rule.input (back.sense.node (0 + x.root))
+      input =
+          let same : x.root ≡ 0 + x.root = omega arith in
+          subst (λ z. HoldsAt h r.larger (back.sense.var 0) rule.input (back.sense.node z)) same fits.input
+
+      -- in a further extension the entry is sound
+      abbrev SoundThere : Type 0
+      SoundThere = HasSoundExtension h program x.kept r.larger (λ n. back.sense.node (0 + n)) (λ u. LexicalAt h program u x.level x.word (back.sense.node (0 + x.root)))
+
+      met : (t : SoundThere) → MeetsPairs gr t.larger (λ n. r.map (node_of a.closed n)) a.state.imposed
+      met t = all_met_on gr (answers.none_brought runs h program accepted) r.larger t.larger t.extends (start_lex rule x) a (arrived a has).is r.map r.is free back given
+        where
+          given : (n k : ℕ) → Has (start_lex rule x).imposed (n, k) → MeetsAt h program t.larger k (r.map (node_of a.closed n))
+          given n k there =
+              let e = has_map (λ (q : ℕ × ℕ). (0 + q.0, q.1)) x.kept.imposed (n, k) (subst (λ ps. Has ps (n, k)) (rule_imposed h rule x) there) in
+              let first : n ≡ 0 + e.0.0 = ap (λ (q : ℕ × ℕ). q.0) e.2 in
+              let second : k ≡ e.0.1 = ap (λ (q : ℕ × ℕ). q.1) e.2 in
+              subst (λ z. MeetsAt h program t.larger z (r.map (node_of a.closed n))) (sym second)
+              (subst (MeetsAt h program t.larger e.0.1) (ap back.sense.node (sym first) ∙ back.node n) (t.sound.imposed e.0.0 e.0.1 e.1))
+
+      by_rule : (t : SoundThere) → LexicalAt h program t.larger (suc x.level) w (to part.root)
+      by_rule t =
           let stay = stays.stays_law h program r.larger t.larger t.extends in
-          let out : back.sense.node (0 + count x.kept.graph) ≡ to part.root =
-          (let same : 0 + count x.kept.graph ≡ count x.kept.graph = omega arith in ap back.sense.node same)
-          ∙ back.node (count x.kept.graph) ∙ ap r.map (sym p.root_is) ∙ r.agrees part.root p.is.root_below in
-          let root_low : back.sense.node (0 + x.root) < count r.larger = fits.goes.into x.root is.root_below in
-          let zero_root : 0 + x.root ≡ x.root = omega arith in
-          let out_inside : back.sense.node (0 + count x.kept.graph) < count r.larger =
-          back.satisfies.fulfils.into (0 + count x.kept.graph) (let first = rule_next h rule x in omega arith) in
-          let met = all_met_on gr (answers.none_brought runs h program accepted) r.larger t.larger t.extends (start_lex rule x) a c.is r.map r.is free back (λ n k given.
-          let e = has_map (λ (q : ℕ × ℕ). (0 + q.0, q.1)) x.kept.imposed (n, k) (subst (λ ps. Has ps (n, k)) (rule_imposed h rule x) given) in
-          let first : n ≡ 0 + e.0.0 = ap (λ (q : ℕ × ℕ). q.0) e.2 in
-          let second : k ≡ e.0.1 = ap (λ (q : ℕ × ℕ). q.1) e.2 in
-          subst (λ z. MeetsAt h program t.larger z (r.map (node_of a.closed n))) (sym second)
-          (subst (MeetsAt h program t.larger e.0.1) (ap back.sense.node (sym first) ∙ back.node n) (t.sound.imposed e.0.0 e.0.1 e.1))) in
           record {
-            larger = t.larger;
-            extends = extends_through h s r.larger t.larger r.extends t.extends;
-            sound = rise_on gr accepted.lawful (count x.kept.graph) a part c.is.structure p c.is.all_imposed s to r t.larger t.extends t.sound.added met;
-            says = record {
-              rule = rule;
-              has = has_rule;
-              word = x.word;
-              becomes = becomes;
-              inside = subst (λ z. z < count t.larger) out (let wide = stay.larger in omega arith);
-              node = back.sense.node (0 + x.root);
-              lexical = t.says;
-              assign = back.sense.var 0;
-              nodes = stay.assigns (back.sense.var 0) (back.satisfies.nodes 0);
-              input = stay.holds (back.sense.var 0) rule.input (back.sense.node (0 + x.root)) root_low (subst (λ z. HoldsAt h r.larger (back.sense.var 0) rule.input (back.sense.node z)) (sym zero_root) fits.input);
-              output = subst (HoldsAt h t.larger (back.sense.var 0) rule.output) out (stay.holds (back.sense.var 0) rule.output (back.sense.node (0 + count x.kept.graph)) out_inside fits.out);
-              derived = stay.derivable (back.sense.var 0) (goal_of rule.goal) fits.derived;
-            };
+            rule = rule;
+            has = has_rule;
+            word = x.word;
+            becomes = becomes;
+            inside = subst (λ z. z < count t.larger) out (let wide = stay.larger in let low = out_inside in omega arith);
+            node = back.sense.node (0 + x.root);
+            lexical = t.says;
+            assign = back.sense.var 0;
+            nodes = stay.assigns (back.sense.var 0) (back.satisfies.nodes 0);
+            input = stay.holds (back.sense.var 0) rule.input (back.sense.node (0 + x.root)) (fits.goes.into x.root is.root_below) input;
+            output = subst (HoldsAt h t.larger (back.sense.var 0) rule.output) out (stay.holds (back.sense.var 0) rule.output (back.sense.node (0 + count x.kept.graph)) out_inside fits.out);
+            derived = stay.derivable (back.sense.var 0) (goal_of rule.goal) fits.derived;
           }
+
+      sound_there : (t : SoundThere) → HasSoundExtension h program part.kept s to (λ u. LexicalAt h program u (suc x.level) w (to part.root))
+      sound_there t = record {
+        larger = t.larger;
+        extends = extends_through h s r.larger t.larger r.extends t.extends;
+        sound = rise_on gr accepted.lawful (count x.kept.graph) a part (arrived a has).is.structure p (arrived a has).is.all_imposed s to r t.larger t.extends t.sound.added (met t);
+        says = by_rule t;
+      }
+
+    lexical_there : IsSoundAs h program x (λ t n. LexicalAt h program t x.level x.word n) → (s : Structure) (to : ℕ → ℕ) → IsStructure h s → IsMorphismAside h part.kept.graph s to →
+        HasSoundExtension h program part.kept s to (λ t. LexicalAt h program t (suc x.level) w (to part.root))
+    lexical_there sound s to str m =
+        let p = part_of a has in
+        let r = p.reattached s to str m in
+        let c = arrived a has in
+        let low : r.map (node_of a.closed 0) < count r.larger = r.is.into (node_of a.closed 0) (root_inside gr (start_lex rule x) a c 0 starts.is.is.some_node) in
+        let free = free_at r.larger a (λ e v. r.map (node_of a.closed 0)) (λ e v. low) (c.is.said starts.quiet ∙ rule_said h rule x) in
+        let back = answers.returned runs h program accepted (start_lex rule x) starts plain budget a has r.larger r.map r.extends.larger r.is free in
+        sound_there s to p r free back (sound r.larger (λ n. back.sense.node (0 + n)) r.extends.larger (fits s to p r free back).goes)
 
     -- what the rule makes is an entry of the next level
     pub entry_there : (level : ℕ) → IsEntryAt h program level x → IsEntryAt h program (suc level) (entry_of w (suc x.level) part)

@@ -1,4 +1,4 @@
-ghost use Rattle.ale_logic.specs.LexiconLaws.{LexiconLaws};
+ghost use Rattle.ale_logic.specs.LexiconLaws.{LexiconBudgetLaws, LexiconLaws};
 
 use ale_graph::closure_law;
 use ale_morphism::visible_laws;
@@ -14,3 +14,10 @@ pub fn lexicon_law()
     closure_law();
     visible_laws();
 }
+
+/// What a budget is to the lexicon, whatever is kept of answers: it is never exceeded, and only a search that
+/// is due and has a state left to visit keeps the lexicon from its end; the visits of a finished one are just
+/// as many as it needs, and with those or more it is the same.
+pub fn lexicon_budget_law()
+    ensures { LexiconBudgetLaws }
+{}

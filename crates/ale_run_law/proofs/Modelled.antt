@@ -1,15 +1,12 @@
 -- An answer's graph is a model where what was imposed at first and what entries brought is met in it.
-use Rattle.std.proofs.Common.{◌≡◌, sym, subst, refl, ℕ, ◌<◌, ◌≤◌, Some, None, List, [], ◌∷◌, inl, inr, arith}
-use Rattle.ale_declared.specs.Lists.{Has}
-use Rattle.ale_graph.specs.Structures.{Structure, count}
+use Rattle.std.proofs.Common.{subst, inl, inr, arith}
+use Rattle.ale_graph.specs.Structures.{Structure}
 use Rattle.ale_graph.specs.Closure.{node_of}
 use Rattle.ale_logic.specs.Models.{MeetsAt}
 use Rattle.ale_logic.specs.Words.{Grammar}
-use Rattle.ale_logic.specs.States.{Piece, State}
+use Rattle.ale_logic.specs.States.{State}
 use Rattle.ale_logic.specs.Spelling.{spelled}
-use Rattle.ale_engine.specs.Engine.{search}
-use Rattle.ale_logic.specs.Visits.{Answer, visit}
-use Rattle.ale_logic.specs.Steps.{IsGrammar, IsBrought}
+use Rattle.ale_logic.specs.Visits.{Answer}
 use Rattle.ale_logic.specs.Runs.{MeetsPairs, FreeSense, Returns, IsAnswer, RunLaws}
 use Rattle.ale_logic.specs.ModelLaws.{MeetsBrought, IsPlainStart, ModelLaws}
 use Rattle.ale_extension_law.proofs.Spells.{spelling_law}

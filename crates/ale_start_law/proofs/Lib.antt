@@ -1,2 +1,0 @@
-pub mod ItemStarts
-pub mod Starts
