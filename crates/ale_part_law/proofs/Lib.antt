@@ -1,0 +1,3 @@
+pub mod Adding
+pub mod Attaching
+pub mod Drafts
