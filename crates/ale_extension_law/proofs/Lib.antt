@@ -1,3 +1,4 @@
+pub mod Extensional
 pub mod Grows
 pub mod Puts
 pub mod Spells
