@@ -25,7 +25,7 @@ at_place d [] x k = absurd k
 at_place d (y ∷ ys) x (inl e) = (0, omega arith, sym e)
 at_place d (y ∷ ys) x (inr k) = let r = at_place d ys x k in let low = r.1 in (suc r.0, omega arith, r.2)
 
-abbrev past : Node
+abbrev pub past : Node
 past = record { of = 0; values = [] }
 
 -- the later node taken away, and taken for the earlier one
@@ -79,7 +79,7 @@ before_without a b n less = go n (grind arith)
     go zero (inr (inr high)) = absurd (omega arith)
     go (suc n) (inr (inr high)) = inl (ap (before b) (without_high a b n (omega arith)) ∙ before_high b n (omega arith))
 
-mapped_option : (f : ℕ → ℕ) (o : Option ℕ) (m : ℕ) → option_map f o ≡ Some m → (k : ℕ) × (o ≡ Some k) × (f k ≡ m)
+pub mapped_option : (f : ℕ → ℕ) (o : Option ℕ) (m : ℕ) → option_map f o ≡ Some m → (k : ℕ) × (o ≡ Some k) × (f k ≡ m)
 mapped_option f None m e = absurd (none_some e)
 mapped_option f (Some k) m e = (k, refl, some_one e)
 

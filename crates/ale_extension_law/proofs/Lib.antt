@@ -1,6 +1,7 @@
 pub mod Extensional
 pub mod Grows
 pub mod Puts
+pub mod Reattaching
 pub mod Spells
 pub mod Stays
 pub mod Through
