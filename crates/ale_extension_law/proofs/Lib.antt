@@ -1,7 +1,5 @@
-pub mod Extensional
 pub mod Grows
 pub mod Puts
-pub mod Reattaching
 pub mod Spells
 pub mod Stays
 pub mod Through
