@@ -1,8 +1,8 @@
 -- The items with which a chart begins: each is good, and all that there are to be are there.
-use Rattle.std.proofs.Common.{◌≡◌, ℕ, zero, suc, ◌+◌, ◌<◌, ◌≤◌, Bool, true, false, eqb, List, [], ◌∷◌, ◌++◌, map, length, filter, get_or, replicate, ◌⊎◌, inl, inr, refl, sym, ap, ◌∙◌, subst, arith, Option, Some, None, if◌then◌else◌}
+use Rattle.std.proofs.Common.{◌≡◌, ℕ, zero, suc, ◌+◌, ◌<◌, ◌≤◌, true, eqb, List, [], ◌∷◌, ◌++◌, map, length, filter, get_or, replicate, ◌⊎◌, inl, inr, refl, sym, ap, ◌∙◌, subst, arith, Option, Some, None}
 use Rattle.std.proofs.lemmas.Bool.{and_parts, and_from, eqb-true, eq-eqb}
 use Rattle.std.proofs.lemmas.List.{length-replicate}
-use Rattle.ale_declared.specs.Lists.{Has, upto, sum_over}
+use Rattle.ale_declared.specs.Lists.{Has, upto}
 use Rattle.ale_declared.proofs.ListLemmas.{Has-filter, filter_has, le-sum_over}
 use Rattle.ale_hierarchy.specs.Hierarchy.{Hierarchy, Above, IsLawful, size_at}
 use Rattle.ale_graph.specs.Structures.{Structure, IsStructure, count, type_of, value_of}
@@ -24,6 +24,7 @@ use Rattle.ale_logic.specs.Charts.{same_word, passive_of, one_node, rules_from, 
 use Rattle.ale_extension_law.proofs.Stays as stays
 use Rattle.ale_run_law.proofs.First.{none_bound}
 use Rattle.ale_chart_law.proofs.Items.{FitsLeft, IsThere}
+use Rattle.ale_chart_law.proofs.Searches.{rule_renamed}
 use Rattle.ale_chart_law.proofs.Extensions.{extends_self, none_added}
 use Rattle.ale_chart_law.proofs.Good.{Pending, Says, IsGood}
 
@@ -64,19 +65,6 @@ one_is h law slots = record {
     only : (n f m : ℕ) → value_of (one_node slots).graph n f ≡ Some m → ⊥
     only zero f m e = none_some e
     only (suc n) f m e = none_some e
-
--- a rule's elements name no nodes
-pub rule_renamed : (h : Hierarchy) (f : ℕ → ℕ) (slots : ℕ) (es : List Element) → ((e : Element) → Has es e → FitsElement h slots e) → map (renamed f) es ≡ es
-rule_renamed h f slots [] fit = refl
-rule_renamed h f slots (e ∷ es) fit = go e (fit e (inl refl)) (rule_renamed h f slots es (λ d has. fit d (inr has)))
-  where
-    go : (d : Element) → FitsElement h slots d → map (renamed f) es ≡ es → renamed f d ∷ map (renamed f) es ≡ d ∷ es
-    go (cat x) b ih = ap (λ z. cat x ∷ z) ih
-    go (cats x) b ih = ap (λ z. cats x ∷ z) ih
-    go (sem_head x) b ih = ap (λ z. sem_head x ∷ z) ih
-    go (derived x) b ih = ap (λ z. derived x ∷ z) ih
-    go (member n) b ih = absurd b
-    go (tail n) b ih = absurd b
 
 element_left : (h : Hierarchy) (program : Program) (slots n : ℕ) (e : Element) → FitsElement h slots e → FitsLeft h slots n e
 element_left h program slots n (cat d) fit = fit

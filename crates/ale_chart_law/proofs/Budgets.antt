@@ -5,18 +5,15 @@ use Rattle.std.proofs.lemmas.List.{append-nil}
 use Rattle.ale_hierarchy.specs.Hierarchy.{Hierarchy}
 use Rattle.ale_engine.specs.EngineLaws.{IsPrefix}
 use Rattle.ale_engine.specs.Growth.{Found, run_all}
-use Rattle.ale_engine.specs.GrowthLaws.{RunAllLaw}
-use Rattle.ale_engine.proofs.EngineLaw.{engine_law}
 use Rattle.ale_engine.proofs.Lists.{none_short}
 use Rattle.ale_logic.specs.Programs.{Word, Program}
 use Rattle.ale_logic.specs.Words.{Words}
-use Rattle.ale_logic.specs.States.{State}
 use Rattle.ale_logic.specs.Parts.{Extract}
-use Rattle.ale_logic.specs.Visits.{Answer, visit}
+use Rattle.ale_logic.specs.Visits.{visit}
 use Rattle.ale_logic.specs.Lexicons.{wordless}
 use Rattle.ale_logic.specs.Starts.{ChartItem}
 use Rattle.ale_logic.specs.Charts.{tasks_of, Keep, put_kept, Chart, items, after_item, process_first, processed, initial_items, first_chart, chart}
-use Rattle.ale_chart_law.proofs.Grown.{was_finished}
+use Rattle.ale_chart_law.proofs.Grown.{results, law, was_finished}
 use Rattle.ale_logic.specs.ChartLaws.{IsChartCutOff, IsSameChart, ChartBudgetLaw, ChartBudgetLaws}
 
 prefix_self : {A : Type 0} (xs : List A) → IsPrefix xs xs
@@ -49,17 +46,11 @@ put_few keep done todo (x ∷ xs) = go (put_few keep done (todo ++ x ∷ []) xs)
     go one two false = omega arith
 
 module _ (extract : Extract) (keep : Keep) (h : Hierarchy) (program : Program) where
-  abbrev results : Chart → ChartItem → Found ChartItem
-  results c x = run_all (visit (wordless h program)) (tasks_of extract program c.done x) c.left
-
   abbrev first_step : Chart → List ChartItem → Chart
   first_step c xs = process_first extract keep (wordless h program) c xs
 
   abbrev grown : ℕ → Chart → Chart
   grown n c = processed extract keep (wordless h program) n c
-
-  law : (c : Chart) (x : ChartItem) → RunAllLaw State Answer ChartItem (visit (wordless h program)) (tasks_of extract program c.done x) c.left
-  law c x = (engine_law State Answer ChartItem (visit (wordless h program))).runs (tasks_of extract program c.done x) c.left
 
   -- a chart of which nothing waits stays as it is
   nothing_more : (n : ℕ) (c : Chart) → c.todo ≡ [] → grown n c ≡ c
@@ -80,9 +71,9 @@ module _ (extract : Extract) (keep : Keep) (h : Hierarchy) (program : Program) w
       go later (x ∷ xs) eq =
           let step : first_step c c.todo ≡ first_step c (x ∷ xs) = ap (first_step c) eq in
           let size : length c.todo ≡ suc (length xs) = ap (λ ys. length ys) eq in
-          let put = put_few keep (c.done ++ x ∷ []) xs (results c x).all in
-          let few = (law c x).few in
-          let within = (law c x).within in
+          let put = put_few keep (c.done ++ x ∷ []) xs (results h program extract keep c x).all in
+          let few = (law h program extract keep c x).few in
+          let within = (law h program extract keep c x).within in
           later (subst (λ (d : Chart). length d.todo + d.left ≤ n) (sym step) (omega arith))
 
   -- visits that are left never rise, and each new item took one
@@ -104,13 +95,13 @@ module _ (extract : Extract) (keep : Keep) (h : Hierarchy) (program : Program) w
       one : (xs : List ChartItem) → c.todo ≡ xs → length (items (first_step c xs)) + (first_step c xs).left ≤ length (items c) + c.left
       one [] eq = omega arith
       one (x ∷ xs) eq =
-          let put = put_few keep (c.done ++ x ∷ []) xs (results c x).all in
-          let few = (law c x).few in
-          let within = (law c x).within in
+          let put = put_few keep (c.done ++ x ∷ []) xs (results h program extract keep c x).all in
+          let few = (law h program extract keep c x).few in
+          let within = (law h program extract keep c x).within in
           let size : length c.todo ≡ suc (length xs) = ap (λ ys. length ys) eq in
           let before = length-append c.done c.todo in
           let done = length-append c.done (x ∷ []) in
-          let after = length-append (c.done ++ x ∷ []) (put_kept keep (c.done ++ x ∷ []) xs (results c x).all) in
+          let after = length-append (c.done ++ x ∷ []) (put_kept keep (c.done ++ x ∷ []) xs (results h program extract keep c x).all) in
           omega arith
 
       go : length (items (grown n (first_step c c.todo))) + (grown n (first_step c c.todo)).left ≤ length (items (first_step c c.todo)) + (first_step c c.todo).left → length (items (first_step c c.todo)) + (first_step c c.todo).left ≤ length (items c) + c.left →
@@ -123,11 +114,11 @@ module _ (extract : Extract) (keep : Keep) (h : Hierarchy) (program : Program) w
     where
       one : (xs : List ChartItem) → (first_step c xs).finished ≡ false → (first_step c xs).left ≡ 0
       one [] e = before e
-      one (x ∷ xs) e = go (and_cases c.finished (results c x).finished e)
+      one (x ∷ xs) e = go (and_cases c.finished (results h program extract keep c x).finished e)
         where
-          go : (c.finished ≡ false) ⊎ ((results c x).finished ≡ false) → c.left - (results c x).visits ≡ 0
+          go : (c.finished ≡ false) ⊎ ((results h program extract keep c x).finished ≡ false) → c.left - (results h program extract keep c x).visits ≡ 0
           go (inl p) = let none = before p in omega arith
-          go (inr p) = let all = (law c x).spent p in omega arith
+          go (inr p) = let all = (law h program extract keep c x).spent p in omega arith
 
   cut_off : (n : ℕ) (c : Chart) → c.finished ≡ true → (grown n c).finished ≡ false → IsChartCutOff extract keep h program c
   cut_off zero c fin unfinished = absurd (let clash : true ≡ false = sym fin ∙ unfinished in cc)
@@ -135,9 +126,9 @@ module _ (extract : Extract) (keep : Keep) (h : Hierarchy) (program : Program) w
     where
       here : (xs : List ChartItem) → c.todo ≡ xs → (first_step c xs).finished ≡ false → IsChartCutOff extract keep h program c
       here [] eq e = absurd (let clash : true ≡ false = sym fin ∙ e in cc)
-      here (x ∷ xs) eq e = record { number = 0; item = x; later = xs; waits = eq; cut_off = (law c x).unfinished (of (and_cases c.finished (results c x).finished e)) }
+      here (x ∷ xs) eq e = record { number = 0; item = x; later = xs; waits = eq; cut_off = (law h program extract keep c x).unfinished (of (and_cases c.finished (results h program extract keep c x).finished e)) }
         where
-          of : (c.finished ≡ false) ⊎ ((results c x).finished ≡ false) → (results c x).finished ≡ false
+          of : (c.finished ≡ false) ⊎ ((results h program extract keep c x).finished ≡ false) → (results h program extract keep c x).finished ≡ false
           of (inl p) = absurd (let clash : true ≡ false = sym fin ∙ p in cc)
           of (inr p) = p
 
@@ -158,12 +149,12 @@ module _ (extract : Extract) (keep : Keep) (h : Hierarchy) (program : Program) w
           (xs : List ChartItem) → (grown n (first_step c xs)).finished ≡ true → c.left - (grown n (first_step c xs)).left ≤ m → grown n (first_step (with_left c m) xs) ≡ with_left (grown n (first_step c xs)) (m - (c.left - (grown n (first_step c xs)).left))
       go ih [] q small = ih c m q small
       go ih (x ∷ xs) q small =
-          let both = and_parts c.finished (results c x).finished (was_finished h program extract keep n (first_step c (x ∷ xs)) q) in
-          let within = (law c x).within in
+          let both = and_parts c.finished (results h program extract keep c x).finished (was_finished h program extract keep n (first_step c (x ∷ xs)) q) in
+          let within = (law h program extract keep c x).within in
           let falls = left_falls n (first_step c (x ∷ xs)) in
-          let same : run_all (visit (wordless h program)) (tasks_of extract program c.done x) m ≡ results c x = (law c x).settled both.1 m (omega arith) in
-          let rest = ih (first_step c (x ∷ xs)) (m - (results c x).visits) q (omega arith) in
-          let visits : (m - (results c x).visits) - ((c.left - (results c x).visits) - (grown n (first_step c (x ∷ xs))).left) ≡ m - (c.left - (grown n (first_step c (x ∷ xs))).left) = omega arith in
+          let same : run_all (visit (wordless h program)) (tasks_of extract program c.done x) m ≡ results h program extract keep c x = (law h program extract keep c x).settled both.1 m (omega arith) in
+          let rest = ih (first_step c (x ∷ xs)) (m - (results h program extract keep c x).visits) q (omega arith) in
+          let visits : (m - (results h program extract keep c x).visits) - ((c.left - (results h program extract keep c x).visits) - (grown n (first_step c (x ∷ xs))).left) ≡ m - (c.left - (grown n (first_step c (x ∷ xs))).left) = omega arith in
           ap (λ (f : Found ChartItem). grown n (after_item keep (with_left c m) x xs f)) same ∙ rest ∙ ap (with_left (grown n (first_step c (x ∷ xs)))) visits
 
   -- items are put behind those that there are
@@ -174,8 +165,8 @@ module _ (extract : Extract) (keep : Keep) (h : Hierarchy) (program : Program) w
       one : (xs : List ChartItem) → c.todo ≡ xs → IsPrefix (items c) (items (first_step c xs))
       one [] eq = prefix_self (items c)
       one (x ∷ xs) eq =
-          subst (λ zs. IsPrefix zs ((c.done ++ x ∷ []) ++ put_kept keep (c.done ++ x ∷ []) xs (results c x).all)) (append_assoc c.done (x ∷ []) xs ∙ ap (λ ys. c.done ++ ys) (sym eq))
-          (prefix_behind (c.done ++ x ∷ []) xs (put_kept keep (c.done ++ x ∷ []) xs (results c x).all) (put_prefix keep (c.done ++ x ∷ []) xs (results c x).all))
+          subst (λ zs. IsPrefix zs ((c.done ++ x ∷ []) ++ put_kept keep (c.done ++ x ∷ []) xs (results h program extract keep c x).all)) (append_assoc c.done (x ∷ []) xs ∙ ap (λ ys. c.done ++ ys) (sym eq))
+          (prefix_behind (c.done ++ x ∷ []) xs (put_kept keep (c.done ++ x ∷ []) xs (results h program extract keep c x).all) (put_prefix keep (c.done ++ x ∷ []) xs (results h program extract keep c x).all))
 
   -- where no visit is left, no item comes
   spent_items : (n : ℕ) (c : Chart) → c.left ≡ 0 → items (grown n c) ≡ items c
@@ -185,9 +176,9 @@ module _ (extract : Extract) (keep : Keep) (h : Hierarchy) (program : Program) w
       go : ((d : Chart) → d.left ≡ 0 → items (grown n d) ≡ items d) → (xs : List ChartItem) → c.todo ≡ xs → items (grown n (first_step c xs)) ≡ items c
       go ih [] eq = ih c none
       go ih (x ∷ xs) eq =
-          let few = (law c x).few in
-          let within = (law c x).within in
-          let nothing : (results c x).all ≡ [] = none_short (results c x).all (omega arith) in
+          let few = (law h program extract keep c x).few in
+          let within = (law h program extract keep c x).within in
+          let nothing : (results h program extract keep c x).all ≡ [] = none_short (results h program extract keep c x).all (omega arith) in
           ih (first_step c (x ∷ xs)) (omega arith)
           ∙ ap (λ zs. (c.done ++ x ∷ []) ++ put_kept keep (c.done ++ x ∷ []) xs zs) nothing
           ∙ append_assoc c.done (x ∷ []) xs
@@ -200,26 +191,26 @@ module _ (extract : Extract) (keep : Keep) (h : Hierarchy) (program : Program) w
     where
       go : ((d : Chart) (k : ℕ) → d.left ≤ k → IsPrefix (items (grown n d)) (items (grown n (with_left d k)))) → (xs : List ChartItem) → IsPrefix (items (grown n (first_step c xs))) (items (grown n (first_step (with_left c m) xs)))
       go ih [] = ih c m le
-      go ih (x ∷ xs) = of (cases_Bool (results c x).finished)
+      go ih (x ∷ xs) = of (cases_Bool (results h program extract keep c x).finished)
         where
           larger : Found ChartItem
           larger = run_all (visit (wordless h program)) (tasks_of extract program c.done x) m
 
-          of : ((results c x).finished ≡ true) ⊎ ((results c x).finished ≡ false) → IsPrefix (items (grown n (first_step c (x ∷ xs)))) (items (grown n (first_step (with_left c m) (x ∷ xs))))
+          of : ((results h program extract keep c x).finished ≡ true) ⊎ ((results h program extract keep c x).finished ≡ false) → IsPrefix (items (grown n (first_step c (x ∷ xs)))) (items (grown n (first_step (with_left c m) (x ∷ xs))))
           of (inl e) =
-              let within = (law c x).within in
-              let same : run_all (visit (wordless h program)) (tasks_of extract program c.done x) m ≡ results c x = (law c x).settled e m (omega arith) in
-              subst (λ (f : Found ChartItem). IsPrefix (items (grown n (first_step c (x ∷ xs)))) (items (grown n (after_item keep (with_left c m) x xs f)))) (sym same) (ih (first_step c (x ∷ xs)) (m - (results c x).visits) (omega arith))
+              let within = (law h program extract keep c x).within in
+              let same : run_all (visit (wordless h program)) (tasks_of extract program c.done x) m ≡ results h program extract keep c x = (law h program extract keep c x).settled e m (omega arith) in
+              subst (λ (f : Found ChartItem). IsPrefix (items (grown n (first_step c (x ∷ xs)))) (items (grown n (after_item keep (with_left c m) x xs f)))) (sym same) (ih (first_step c (x ∷ xs)) (m - (results h program extract keep c x).visits) (omega arith))
           of (inr e) =
-              let all = (law c x).spent e in
-              let more = (law c x).further m le in
+              let all = (law h program extract keep c x).spent e in
+              let more = (law h program extract keep c x).further m le in
               let nothing : (first_step c (x ∷ xs)).left ≡ 0 = omega arith in
               subst (λ zs. IsPrefix zs (items (grown n (first_step (with_left c m) (x ∷ xs))))) (sym (spent_items n (first_step c (x ∷ xs)) nothing))
               (prefix_on (items (first_step c (x ∷ xs))) (items (first_step (with_left c m) (x ∷ xs))) (items (grown n (first_step (with_left c m) (x ∷ xs))))
-              (prefix_behind (c.done ++ x ∷ []) (put_kept keep (c.done ++ x ∷ []) xs (results c x).all) (put_kept keep (c.done ++ x ∷ []) xs (run_all (visit (wordless h program)) (tasks_of extract program c.done x) m).all)
-              (subst (λ zs. IsPrefix (put_kept keep (c.done ++ x ∷ []) xs (results c x).all) (put_kept keep (c.done ++ x ∷ []) xs zs)) (sym more.1)
-              (subst (IsPrefix (put_kept keep (c.done ++ x ∷ []) xs (results c x).all)) (sym (put_append keep (c.done ++ x ∷ []) xs (results c x).all more.0))
-              (put_prefix keep (c.done ++ x ∷ []) (put_kept keep (c.done ++ x ∷ []) xs (results c x).all) more.0))))
+              (prefix_behind (c.done ++ x ∷ []) (put_kept keep (c.done ++ x ∷ []) xs (results h program extract keep c x).all) (put_kept keep (c.done ++ x ∷ []) xs (run_all (visit (wordless h program)) (tasks_of extract program c.done x) m).all)
+              (subst (λ zs. IsPrefix (put_kept keep (c.done ++ x ∷ []) xs (results h program extract keep c x).all) (put_kept keep (c.done ++ x ∷ []) xs zs)) (sym more.1)
+              (subst (IsPrefix (put_kept keep (c.done ++ x ∷ []) xs (results h program extract keep c x).all)) (sym (put_append keep (c.done ++ x ∷ []) xs (results h program extract keep c x).all more.0))
+              (put_prefix keep (c.done ++ x ∷ []) (put_kept keep (c.done ++ x ∷ []) xs (results h program extract keep c x).all) more.0))))
               (grow_prefix n (first_step (with_left c m) (x ∷ xs))))
 
   module _ (words : Words) (sentence : List Word) where

@@ -13,7 +13,7 @@ use Rattle.ale_graph.proofs.Lists.{none_some, some_one}
 use Rattle.ale_logic.specs.Descriptions.{Description, HoldsAt, IsAssignment}
 use Rattle.ale_logic.specs.Goals.{Goal}
 use Rattle.ale_logic.specs.Programs.{Word, Element, cat, cats, derived, sem_head, member, tail, Rule, ListTypes, Program}
-use Rattle.ale_logic.specs.Fitting.{FitsElement, FitsRule}
+use Rattle.ale_logic.specs.Fitting.{FitsRule}
 use Rattle.ale_logic.specs.Derivations.{Derivable}
 use Rattle.ale_logic.specs.Models.{IsModel}
 use Rattle.ale_logic.specs.ListNodes.{hd_of, tl_of, IsEmptyList, IsNonEmptyList, IsHd, IsTl}
@@ -40,7 +40,7 @@ use Rattle.ale_logic.specs.ChartLaws.{IsCovered, Replaces}
 use Rattle.ale_run_law.proofs.First.{none_bound}
 use Rattle.ale_chart_law.proofs.Items.{IsItem, IsStart, rest_below, hd_below, tl_below, own_is, daughter_is, first_left}
 use Rattle.ale_chart_law.proofs.Maps.{beside, beside_low, beside_high, beside_from, beside_at, holds_both, put_first, put_from}
-use Rattle.ale_chart_law.proofs.Searches.{renamed_same, gr, Arrival, arrival}
+use Rattle.ale_chart_law.proofs.Searches.{none_left, rule_renamed, renamed_same, gr, Arrival, arrival}
 
 -- the item is there, or another passive one that replaces it
 abbrev pub Stands : Hierarchy → List ChartItem → ChartItem → Type 0
@@ -131,10 +131,6 @@ tl_goes (Some l) g s f keeps n k m t goes one two = some_one (sym (keeps n l.tl 
 hd_goes : (o : Option ListTypes) (g s : Structure) (f : ℕ → ℕ) → ((n k m : ℕ) → value_of g n k ≡ Some m → value_of s (f n) k ≡ Some (f m)) → (n k m t : ℕ) → f n ≡ m → hd_of o g n ≡ Some k → hd_of o s m ≡ Some t → f k ≡ t
 hd_goes None g s f keeps n k m t goes one two = absurd (none_some one)
 hd_goes (Some l) g s f keeps n k m t goes one two = some_one (sym (keeps n l.hd k one) ∙ ap (λ z. value_of s z l.hd) goes ∙ two)
-
-none_left : (f : ℕ → ℕ) (xs : List Element) → map (renamed f) xs ≡ [] → xs ≡ []
-none_left f [] p = refl
-none_left f (x ∷ xs) p = absurd cc
 
 module _ (h : Hierarchy) (program : Program) (ok : IsAccepted h program) (runs : RunLaws) (puts : PutLaws) (extract : Extract) (part : PartLaw h program extract) (words : Words) (sentence : List Word) (all : List ChartItem) (closed : IsClosedChart h program extract words sentence all) (s : Structure) (model : IsModel h program s) where
   -- the rule that is covered: its mother, which holds at the node, with what its variables are assigned
@@ -538,18 +534,6 @@ module _ (h : Hierarchy) (program : Program) (ok : IsAccepted h program) (runs :
       values zero f m e = absurd (none_some e)
       values (suc k) f m e = absurd (none_some e)
 
-  rule_elements : (f : ℕ → ℕ) (slots : ℕ) (es : List Element) → ((e : Element) → Has es e → FitsElement h slots e) → map (renamed f) es ≡ es
-  rule_elements f slots [] fit = refl
-  rule_elements f slots (e ∷ es) fit = go e (fit e (inl refl)) (rule_elements f slots es (λ d has. fit d (inr has)))
-    where
-      go : (d : Element) → FitsElement h slots d → map (renamed f) es ≡ es → renamed f d ∷ map (renamed f) es ≡ d ∷ es
-      go (cat x) b ih = ap (λ z. cat x ∷ z) ih
-      go (cats x) b ih = ap (λ z. cats x ∷ z) ih
-      go (sem_head x) b ih = ap (λ z. sem_head x ∷ z) ih
-      go (derived x) b ih = ap (λ z. derived x ∷ z) ih
-      go (member n) b ih = absurd b
-      go (tail n) b ih = absurd b
-
   first_comes : (c : Ctx) (r : Rule) → Has program.rules r → c.mother ≡ r.mother → c.node < count s → c.from ≤ length sentence → Comes c c.from r.elements
   first_comes c r has mother low place = go r.elements refl (closed.at_rule c.from place r has)
     where
@@ -567,7 +551,7 @@ module _ (h : Hierarchy) (program : Program) (ok : IsAccepted h program) (runs :
         map_to = λ k. c.node;
         is = one_goes r.slots c.node low;
         root_to = refl;
-        rest = rule_elements (λ k. c.node) r.slots r.elements fits.elements ∙ eq;
+        rest = rule_renamed h (λ k. c.node) r.slots r.elements fits.elements ∙ eq;
         env = λ v n b. absurd (none_bound r.slots 0 v n b);
       }
 

@@ -1,9 +1,8 @@
 -- Extensions one after the other, and what goes on into them: morphisms, constraints that are met, added nodes.
-use Rattle.std.proofs.Common.{ℕ, ◌<◌, ◌≤◌, List, [], ◌++◌, append_assoc, ◌⊎◌, inl, inr, refl, sym, ap, ◌∙◌, subst, arith}
+use Rattle.std.proofs.Common.{ℕ, ◌<◌, ◌≤◌, [], ◌⊎◌, inl, inr, refl, sym, subst, arith}
 use Rattle.std.proofs.lemmas.Bool.{cases_lt}
 use Rattle.std.proofs.lemmas.List.{append-nil}
 use Rattle.ale_hierarchy.specs.Hierarchy.{Hierarchy, Above}
-use Rattle.ale_graph.specs.declared.node.Node.{Node}
 use Rattle.ale_graph.specs.Structures.{Structure, IsStructure, count, type_of}
 use Rattle.ale_graph.specs.Morphisms.{IsMorphismAside}
 use Rattle.ale_graph.specs.Extensions.{Extends}

@@ -32,7 +32,7 @@ use Rattle.ale_run_law.proofs.Rises.{rise_on}
 use Rattle.ale_extension_law.proofs.Stays as stays
 use Rattle.ale_extension_law.proofs.Through.{extends_through}
 use Rattle.ale_chart_law.proofs.Items.{IsItem, IsStart, own_is, daughter_is, moved_has}
-use Rattle.ale_chart_law.proofs.Searches.{IsFor, Back, Came, part_of, renamed_twice, renamed_same}
+use Rattle.ale_chart_law.proofs.Searches.{none_left, IsFor, Back, Came, part_of, renamed_twice, renamed_same}
 use Rattle.ale_chart_law.proofs.Advancing.{OwnShape, own_shape, PairShape, pair_shape, Advances, own_advances, pair_advances}
 use Rattle.ale_chart_law.proofs.Results.{assign_by, assign_bound, assign_inside, Leads, own_leads, pair_leads, other_down, result_is}
 use Rattle.ale_chart_law.proofs.Extensions.{extends_self, morphism_on, meets_on, added_on}
@@ -63,10 +63,6 @@ module _ (h : Hierarchy) (program : Program) (sentence : List Word) where
     pub place : x.to ≤ length sentence
     pub owes : x.rest ≡ [] → OwesNothing h program x.kept
     pub rises : (s : Structure) (to : ℕ → ℕ) → IsStructure h s → IsMorphismAside h x.kept.graph s to → Rises x s to
-
-pub nothing_left : (f : ℕ → ℕ) (xs : List Element) → map (renamed f) xs ≡ [] → xs ≡ []
-nothing_left f [] p = refl
-nothing_left f (x ∷ xs) p = absurd cc
 
 module _ (h : Hierarchy) (program : Program) (ok : IsAccepted h program) (runs : RunLaws) (puts : PutLaws) (extract : Extract) (part : PartLaw h program extract) (sentence : List Word) where
   -- where the answer's graph goes: an extension in which all that was imposed at the start is met, and what the items say
@@ -173,7 +169,7 @@ module _ (h : Hierarchy) (program : Program) (ok : IsAccepted h program) (runs :
 
         says : (ds : List Element) → (extract x.root a).rest ≡ ds → Says h program sentence z g.larger f ds
         says [] q =
-            let none : a.state.rest ≡ [] = nothing_left (node_of a.closed) a.state.rest (p.rest ∙ ap (λ ds. map (renamed (extract x.root a).whole) ds) q) in
+            let none : a.state.rest ≡ [] = none_left (node_of a.closed) a.state.rest (p.rest ∙ ap (λ ds. map (renamed (extract x.root a).whole) ds) q) in
             subst (λ n. Spans h program g.larger sentence n x.from to) root_goes
             (pended back.larger back.map g g.larger g.extends.larger (extends_self h g.larger g.extends.larger) (assign_by a back.map (back.map (node_of a.closed x.root))) here mother number
             ((g.advances g.larger g.extends.larger (extends_self h g.larger g.extends.larger) (assign_by a back.map (back.map (node_of a.closed x.root))) here).mother mother number none)

@@ -12,7 +12,6 @@ use Rattle.ale_engine.specs.Growth.{Found, run_all}
 use Rattle.ale_engine.specs.GrowthLaws.{IsMade, RunAllLaw}
 use Rattle.ale_engine.proofs.EngineLaw.{engine_law}
 use Rattle.ale_logic.specs.Programs.{Word, Element, Program}
-use Rattle.ale_logic.specs.Words.{Grammar}
 use Rattle.ale_logic.specs.States.{State}
 use Rattle.ale_logic.specs.Parts.{Extract}
 use Rattle.ale_logic.specs.PartLaws.{PartLaw}
@@ -129,13 +128,11 @@ behind xs x y has = elim (has_either xs (x ∷ []) y has) [
 ]
 
 module _ (h : Hierarchy) (program : Program) (extract : Extract) (keep : Keep) where
-  abbrev words_less : Grammar
-  words_less = wordless h program
-
-  abbrev results : Chart → ChartItem → Found ChartItem
+  -- what the searches of an item find
+  abbrev pub results : Chart → ChartItem → Found ChartItem
   results c x = run_all (visit (wordless h program)) (tasks_of extract program c.done x) c.left
 
-  law : (c : Chart) (x : ChartItem) → RunAllLaw State Answer ChartItem (visit (wordless h program)) (tasks_of extract program c.done x) c.left
+  pub law : (c : Chart) (x : ChartItem) → RunAllLaw State Answer ChartItem (visit (wordless h program)) (tasks_of extract program c.done x) c.left
   law c x = (engine_law State Answer ChartItem (visit (wordless h program))).runs (tasks_of extract program c.done x) c.left
 
   -- items stay

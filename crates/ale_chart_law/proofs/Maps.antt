@@ -1,15 +1,14 @@
 -- Maps of nodes: one beside another, and morphisms that agree on the nodes of a structure.
-use Rattle.std.proofs.Common.{◌≡◌, ◌≢◌, ℕ, ◌+◌, ◌-◌, ◌<◌, ◌≤◌, Bool, true, false, ltb, IsTrue, List, ◌++◌, ◌⊎◌, inl, inr, refl, sym, ap, ◌∙◌, subst, arith, Some, if◌then◌else◌}
+use Rattle.std.proofs.Common.{◌≡◌, ℕ, ◌+◌, ◌-◌, ◌<◌, ◌≤◌, Bool, true, false, ltb, List, ◌++◌, ◌⊎◌, inl, inr, refl, sym, ap, ◌∙◌, subst, arith, if◌then◌else◌}
 use Rattle.std.proofs.Math.Path.{fun_ext}
 use Rattle.std.proofs.lemmas.Bool.{lt-ltb, le-ltb}
 use Rattle.ale_declared.specs.Lists.{Has}
-use Rattle.ale_hierarchy.specs.Hierarchy.{Hierarchy, IsLawful, Above}
+use Rattle.ale_hierarchy.specs.Hierarchy.{Hierarchy}
 use Rattle.ale_graph.specs.declared.fact.Fact.{Fact}
-use Rattle.ale_graph.specs.Structures.{Structure, IsStructure, count, type_of, value_of, is_formed}
+use Rattle.ale_graph.specs.Structures.{Structure, IsStructure, count}
 use Rattle.ale_graph.specs.Facts.{Holds, HoldsFact}
 use Rattle.ale_graph.specs.Morphisms.{IsMorphismAside}
 use Rattle.ale_graph.proofs.Lists.{has_either}
-use Rattle.ale_graph.proofs.Structures.{value_from, value_inside}
 use Rattle.ale_logic.specs.Putting.{graph_facts}
 use Rattle.ale_logic.specs.PutLaws.{PutLaws}
 use Rattle.ale_extension_law.proofs.Through.{along_nodes}

@@ -1,25 +1,25 @@
 -- One search from the start of an item: what always holds of its answers and of what is kept of them, where a model
 -- arrives, and what a structure into which the answer's graph goes satisfies.
-use Rattle.std.proofs.Common.{◌≡◌, ℕ, zero, suc, ◌<◌, true, List, [], ◌∷◌, map, length, ◌⊎◌, inl, inr, refl, sym, ap, ◌∙◌, subst, arith, Option, Some, None}
+use Rattle.std.proofs.Common.{◌≡◌, ℕ, ◌<◌, true, List, [], ◌∷◌, map, length, ◌⊎◌, inl, inr, refl, sym, ap, ◌∙◌, subst, arith, Option, Some, None}
 use Rattle.std.proofs.Math.Path.{fun_ext}
 use Rattle.ale_declared.specs.Lists.{Has}
 use Rattle.ale_hierarchy.specs.Hierarchy.{Hierarchy}
-use Rattle.ale_graph.specs.Structures.{Structure, IsStructure, count}
+use Rattle.ale_graph.specs.Structures.{Structure, IsStructure}
 use Rattle.ale_graph.specs.Morphisms.{IsMorphismAside}
 use Rattle.ale_graph.specs.Closure.{node_of}
-use Rattle.ale_graph.proofs.Lists.{has_map, none_some, some_one}
 use Rattle.ale_logic.specs.Programs.{Element, cat, cats, derived, sem_head, member, tail, Program}
+use Rattle.ale_logic.specs.Fitting.{FitsElement}
 use Rattle.ale_logic.specs.Models.{MeetsAt, IsModel}
 use Rattle.ale_logic.specs.Descriptions.{IsAssignment}
 use Rattle.ale_logic.specs.Words.{Environment, bound_in, Grammar}
-use Rattle.ale_logic.specs.States.{Piece, env_at, bound, State}
+use Rattle.ale_logic.specs.States.{Piece, bound, State}
 use Rattle.ale_logic.specs.Satisfaction.{Sense, Satisfies}
-use Rattle.ale_logic.specs.WellFormed.{FitsRest, IsState, scope_of, ArePlainItems}
+use Rattle.ale_logic.specs.WellFormed.{IsState, ArePlainItems}
 use Rattle.ale_logic.specs.Steps.{IsGrammar, IsAccounted, IsInFragment}
 use Rattle.ale_logic.specs.Runs.{FreeSense, Returns, IsAnswer, IsInto, AreInFragment, ComesFrom, IsReached, RunLaw, RunLaws}
 use Rattle.ale_engine.specs.Engine.{search}
 use Rattle.ale_logic.specs.Visits.{Answer, visit}
-use Rattle.ale_logic.specs.Parts.{Part, Extract, renamed, placed}
+use Rattle.ale_logic.specs.Parts.{Part, Extract, renamed}
 use Rattle.ale_logic.specs.PartLaws.{IsElementBelow, AreElementsBelow, IsPart, PartLaw}
 use Rattle.ale_logic.specs.Lexicons.{wordless}
 use Rattle.ale_logic.specs.Answers.{IsAccepted}
@@ -49,6 +49,23 @@ renamed_same f g n same (e ∷ es) low = go e (low e (inl refl)) (renamed_same f
     go (derived x) b ih = ap (λ z. derived x ∷ z) ih
     go (member k) b ih = ap (λ z. member z ∷ map (renamed f) es) (same k b) ∙ ap (λ z. member (g k) ∷ z) ih
     go (tail k) b ih = ap (λ z. tail z ∷ map (renamed f) es) (same k b) ∙ ap (λ z. tail (g k) ∷ z) ih
+
+pub none_left : (f : ℕ → ℕ) (xs : List Element) → map (renamed f) xs ≡ [] → xs ≡ []
+none_left f [] p = refl
+none_left f (x ∷ xs) p = absurd cc
+
+-- a rule's elements name no nodes
+pub rule_renamed : (h : Hierarchy) (f : ℕ → ℕ) (slots : ℕ) (es : List Element) → ((e : Element) → Has es e → FitsElement h slots e) → map (renamed f) es ≡ es
+rule_renamed h f slots [] fit = refl
+rule_renamed h f slots (e ∷ es) fit = go e (fit e (inl refl)) (rule_renamed h f slots es (λ d has. fit d (inr has)))
+  where
+    go : (d : Element) → FitsElement h slots d → map (renamed f) es ≡ es → renamed f d ∷ map (renamed f) es ≡ d ∷ es
+    go (cat x) b ih = ap (λ z. cat x ∷ z) ih
+    go (cats x) b ih = ap (λ z. cats x ∷ z) ih
+    go (sem_head x) b ih = ap (λ z. sem_head x ∷ z) ih
+    go (derived x) b ih = ap (λ z. derived x ∷ z) ih
+    go (member n) b ih = absurd b
+    go (tail n) b ih = absurd b
 
 module _ (h : Hierarchy) (program : Program) (ok : IsAccepted h program) (runs : RunLaws) where
   abbrev pub gr : Grammar
