@@ -1,4 +1,4 @@
-use Rattle.ale_lexicon_law.proofs.Budgets.{lexicon_budget_law}
+use Rattle.ale_lexicon_law.proofs.LexiconBudgets.{lexicon_budget_law}
 use Rattle.ale_chart_law.proofs.Budgets.{chart_budget_law}
 use Rattle.ale_reply_law.proofs.Marking as lemma
 use Rattle.ale_reply_law.proofs.laws.marks_law.Goals as goal
