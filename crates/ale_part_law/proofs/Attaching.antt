@@ -54,7 +54,7 @@ row test u (suc m) = go (row test u m) (test u m) refl
     go (inr all) true is = inl (m, omega arith, is)
     go (inr all) false is = inr (λ x low. last all is x low (cases_eq x m))
 
-pairs : (test : ℕ → ℕ → Bool) (n m : ℕ) → Pairs test n m
+pub pairs : (test : ℕ → ℕ → Bool) (n m : ℕ) → Pairs test n m
 pairs test zero m = none (λ u x low far. absurd (omega arith))
 pairs test (suc n) m = go (pairs test n m) (row test n m)
   where

@@ -40,7 +40,7 @@ module _ (h : Hierarchy) (law : IsLawful h) (g s : Structure) (str : IsStructure
     abbrev old : ℕ → ℕ
     old = old_of u x other
 
-    abbrev fewer : List Node
+    abbrev pub fewer : List Node
     fewer = map (renode (moved_to u x other)) (dropped (u - count s) more)
 
     abbrev t2 : Structure
@@ -49,7 +49,7 @@ module _ (h : Hierarchy) (law : IsLawful h) (g s : Structure) (str : IsStructure
     place : u - count s < length more
     place = let n = count_more s more in omega arith
 
-    fewer_length : suc (length fewer) ≡ length more
+    pub fewer_length : suc (length fewer) ≡ length more
     fewer_length = let l = length-map (dropped (u - count s) more) (renode (moved_to u x other)) in let k = dropped_length (u - count s) more place in omega arith
 
     sizes : suc (count t2) ≡ count t
@@ -146,7 +146,7 @@ module _ (h : Hierarchy) (law : IsLawful h) (g s : Structure) (str : IsStructure
     seen_stays : (n : ℕ) → n < count g → seen n ≡ true → r (d.map_to n) ≡ to n
     seen_stays n less e = let l = glued.into n less e in ap r (d.agrees n less e) ∙ moved_low u x other (to n) (omega arith)
 
-    dropped_one : Draft h g s seen to fewer
+    pub dropped_one : Draft h g s seen to fewer
     dropped_one = record {
       map_to = λ n. r (d.map_to n);
       formed = more_formed s fewer str.formed listed;
