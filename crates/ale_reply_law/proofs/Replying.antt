@@ -27,9 +27,9 @@ use Rattle.ale_logic.specs.Answers.{IsAccepted, SubsumesAt, found_from, Descript
 use Rattle.ale_engine.specs.Engine.{is_nothing}
 use Rattle.ale_logic.specs.Shown.{Shown, words_of, shown_root, shown_slots, shown_kept, mgsat, query, gen, lex, is_passive_over, rec}
 use Rattle.ale_reply_law.specs.Replies.{without_words, IsPartOfSolution, ReplyLaw, StandFor, IsPartOfDerivation, QueryReplyLaw, ReplyLaws, WholeReplyLaws}
+use Rattle.ale_declared.proofs.ListLemmas.{Has-filter, filter_has}
 use Rattle.ale_extension_law.proofs.Wholes.{whole_part}
 use Rattle.ale_run_law.proofs.Enough.{enough}
-use Rattle.ale_declared.proofs.ListLemmas.{Has-filter, filter_has}
 use Rattle.ale_chart_law.proofs.Beginning.{same_is, is_same}
 
 pub map_has : {A B : Type 0} (f : A → B) (xs : List A) (x : A) → Has xs x → Has (map f xs) (f x)

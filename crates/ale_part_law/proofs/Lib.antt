@@ -1,0 +1,4 @@
+pub mod Adding
+pub mod Attaching
+pub mod Drafts
+pub mod Gluing
