@@ -2,3 +2,4 @@ pub mod Adding
 pub mod Attaching
 pub mod Drafts
 pub mod Gluing
+pub mod VisiblePart
