@@ -30,32 +30,32 @@ use Rattle.ale_part_law.proofs.Attaching.{Glued, Attached}
 use Rattle.ale_part_law.proofs.Gluing.{attached}
 
 -- variables of a renamed environment
-placed_bound : (to : ℕ → ℕ) (env : Environment) (v n : ℕ) → bound_in (map (placed to) env) v ≡ Some n → (m : ℕ) × (bound_in env v ≡ Some m) × (n ≡ to m)
+pub placed_bound : (to : ℕ → ℕ) (env : Environment) (v n : ℕ) → bound_in (map (placed to) env) v ≡ Some n → (m : ℕ) × (bound_in env v ≡ Some m) × (n ≡ to m)
 placed_bound to [] v n e = absurd (none_some e)
 placed_bound to (None ∷ env) zero n e = absurd (none_some e)
 placed_bound to (Some m ∷ env) zero n e = (m, refl, sym (some_one e))
 placed_bound to (o ∷ env) (suc v) n e = placed_bound to env v n e
 
-bound_placed : (to : ℕ → ℕ) (env : Environment) (v m : ℕ) → bound_in env v ≡ Some m → bound_in (map (placed to) env) v ≡ Some (to m)
+pub bound_placed : (to : ℕ → ℕ) (env : Environment) (v m : ℕ) → bound_in env v ≡ Some m → bound_in (map (placed to) env) v ≡ Some (to m)
 bound_placed to [] v m e = absurd (none_some e)
 bound_placed to (None ∷ env) zero m e = absurd (none_some e)
 bound_placed to (Some n ∷ env) zero m e = ap Some (ap to (some_one e))
 bound_placed to (o ∷ env) (suc v) m e = bound_placed to env v m e
 
-bound_has : (env : Environment) (v n : ℕ) → bound_in env v ≡ Some n → Has env (Some n)
+pub bound_has : (env : Environment) (v n : ℕ) → bound_in env v ≡ Some n → Has env (Some n)
 bound_has env v n e = go (cases_lt v (length env))
   where
     go : (v < length env) ⊎ (length env ≤ v) → Has env (Some n)
     go (inl low) = subst (Has env) e (get_has env v None low)
     go (inr far) = absurd (none_some (sym (get_or_past env v None far) ∙ e))
 
-has_bound : (env : Environment) (n : ℕ) → Has env (Some n) → (v : ℕ) × (bound_in env v ≡ Some n)
+pub has_bound : (env : Environment) (n : ℕ) → Has env (Some n) → (v : ℕ) × (bound_in env v ≡ Some n)
 has_bound [] n has = absurd has
 has_bound (o ∷ env) n (inl e) = (0, sym e)
 has_bound (o ∷ env) n (inr has) = let r = has_bound env n has in (suc r.0, r.1)
 
 -- elements whose nodes a map takes back
-renamed_back : (f g : ℕ → ℕ) (es : List Element) → ((e : Element) (n : ℕ) → Has es e → named e ≡ Some n → g (f n) ≡ n) → map (renamed g) (map (renamed f) es) ≡ es
+pub renamed_back : (f g : ℕ → ℕ) (es : List Element) → ((e : Element) (n : ℕ) → Has es e → named e ≡ Some n → g (f n) ≡ n) → map (renamed g) (map (renamed f) es) ≡ es
 renamed_back f g [] back = refl
 renamed_back f g (cat d ∷ es) back = ap (λ z. cat d ∷ z) (renamed_back f g es (λ e n has. back e n (inr has)))
 renamed_back f g (cats d ∷ es) back = ap (λ z. cats d ∷ z) (renamed_back f g es (λ e n has. back e n (inr has)))
@@ -64,7 +64,7 @@ renamed_back f g (derived goal ∷ es) back = ap (λ z. derived goal ∷ z) (ren
 renamed_back f g (member n ∷ es) back = ap (λ z. member z ∷ map (renamed g) (map (renamed f) es)) (back (member n) n (inl refl) refl) ∙ ap (λ z. member n ∷ z) (renamed_back f g es (λ e n has. back e n (inr has)))
 renamed_back f g (tail n ∷ es) back = ap (λ z. tail z ∷ map (renamed g) (map (renamed f) es)) (back (tail n) n (inl refl) refl) ∙ ap (λ z. tail n ∷ z) (renamed_back f g es (λ e n has. back e n (inr has)))
 
-named_below : (n k : ℕ) (e : Element) → IsElementBelow n e → named e ≡ Some k → k < n
+pub named_below : (n k : ℕ) (e : Element) → IsElementBelow n e → named e ≡ Some k → k < n
 named_below n k (member m) low e = subst (λ z. z < n) (some_one e) low
 named_below n k (tail m) low e = subst (λ z. z < n) (some_one e) low
 named_below n k (cat d) low e = absurd (none_some e)
@@ -72,7 +72,7 @@ named_below n k (cats d) low e = absurd (none_some e)
 named_below n k (sem_head d) low e = absurd (none_some e)
 named_below n k (derived g) low e = absurd (none_some e)
 
-below_renamed : (f : ℕ → ℕ) (n : ℕ) (e : Element) → ((k : ℕ) → named e ≡ Some k → f k < n) → IsElementBelow n (renamed f e)
+pub below_renamed : (f : ℕ → ℕ) (n : ℕ) (e : Element) → ((k : ℕ) → named e ≡ Some k → f k < n) → IsElementBelow n (renamed f e)
 below_renamed f n (member m) low = low m refl
 below_renamed f n (tail m) low = low m refl
 below_renamed f n (cat d) low = tt
@@ -81,7 +81,7 @@ below_renamed f n (sem_head d) low = tt
 below_renamed f n (derived g) low = tt
 
 -- a structure with other roots, which are nodes of it
-rooted_formed : (s : Structure) (roots : List (Option ℕ)) → IsTrue (is_formed s) → ((n : ℕ) → Has roots (Some n) → n < count s) → IsTrue (is_formed (rooted s roots))
+pub rooted_formed : (s : Structure) (roots : List (Option ℕ)) → IsTrue (is_formed s) → ((n : ℕ) → Has roots (Some n) → n < count s) → IsTrue (is_formed (rooted s roots))
 rooted_formed s roots formed low =
     and_from (every (is_node (count s)) s.nodes) (every (λ (p : ℕ × ℕ). ltb p.0 (count s) && ltb p.1 (count s)) s.differ && every (is_root (count s)) roots) parts.0
       (and_from (every (λ (p : ℕ × ℕ). ltb p.0 (count s) && ltb p.1 (count s)) s.differ) (every (is_root (count s)) roots) others.0 (every_from (is_root (count s)) roots (λ o has. root o has)))
