@@ -1,0 +1,2 @@
+//! The visible part of an answer, as what is kept of it.
+#![tactic(auto)]
