@@ -1,3 +1,4 @@
+ghost use Rattle.ale_chart_law.specs.Subsumed.{SubsumptionKeeps, AllKeeps};
 ghost use Rattle.ale_logic.specs.ChartLaws.{ChartBudgetLaws, ChartLaws};
 ghost use Rattle.ale_logic.specs.StartLaws.{StartLaws};
 
@@ -30,4 +31,11 @@ pub fn chart_budget_law()
 /// item of the chart alone, and an item with another as its daughter.
 pub fn start_law()
     ensures { StartLaws }
+{}
+
+/// A Keep that drops an item only where an earlier one over the same places subsumes it, differing pairs to
+/// differing pairs, replaces what it drops; and so does the one that keeps all.
+pub fn keep_law()
+    ensures subsumed { SubsumptionKeeps }
+    ensures all { AllKeeps }
 {}

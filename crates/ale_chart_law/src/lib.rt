@@ -3,4 +3,4 @@
 
 mod laws;
 
-pub use laws::{chart_budget_law, chart_law, start_law};
+pub use laws::{chart_budget_law, chart_law, keep_law, start_law};

@@ -1,8 +1,8 @@
 -- What owes nothing grows to a model: an extension of its own graph in which it is sound is one, and shows the same.
-use Rattle.std.proofs.Common.{◌≡◌, ℕ, ◌<◌, ◌≤◌, List, [], ◌∷◌, ◌⊎◌, inl, inr, refl, sym, subst, arith, Option, Some, None}
+use Rattle.std.proofs.Common.{◌≡◌, ℕ, ◌<◌, ◌≤◌, [], ◌∷◌, ◌⊎◌, inl, inr, sym, subst, arith, Some}
 use Rattle.ale_declared.specs.Lists.{Has}
 use Rattle.ale_hierarchy.specs.Hierarchy.{Hierarchy, Above}
-use Rattle.ale_graph.specs.Structures.{Structure, IsStructure, count, type_of}
+use Rattle.ale_graph.specs.Structures.{Structure, count, type_of}
 use Rattle.ale_graph.specs.Extensions.{Extends}
 use Rattle.ale_morphism.specs.VisibleLaws.{VisibleLaw}
 use Rattle.ale_logic.specs.Programs.{Constraint, Program}
@@ -27,7 +27,7 @@ sound_model h program kept root t is owes ext sound = record {
 
 -- what holds in a sound extension of the kept graph itself solves, in a model that shows the same
 pub grows : VisibleLaw → (h : Hierarchy) (program : Program) (kept : Kept) (root : ℕ) (Says Solves : Structure → Type 0) → IsKept h kept root → OwesNothing h program kept →
-  HasSoundExtension h program kept kept.graph (λ n. n) Says → ((t : Structure) → IsModel h program t → count kept.graph ≤ count t → Says t → Solves t) → GrowsTo h kept.graph root Solves
+    HasSoundExtension h program kept kept.graph (λ n. n) Says → ((t : Structure) → IsModel h program t → count kept.graph ≤ count t → Says t → Solves t) → GrowsTo h kept.graph root Solves
 grows law h program kept root Says Solves is owes e on = record {
   larger = e.larger;
   extends = e.extends;

@@ -45,18 +45,18 @@ module _ (by : ℕ) where
     types_down (x ∷ xs) n k (suc j) low =
         let same : suc n + j ≡ n + suc j = omega arith in
         subst (λ i. Above h (get_or xs j past).of (type_of t (to (by + i)))) same
-          (types_down xs (suc n) (λ y there. k y (has_right (OfType (by + n) x.of ∷ value_facts by n x.values) (node_facts by (suc n) xs) y there)) j (omega arith))
+        (types_down xs (suc n) (λ y there. k y (has_right (OfType (by + n) x.of ∷ value_facts by n x.values) (node_facts by (suc n) xs) y there)) j (omega arith))
 
     values_down : (xs : List Node) (n : ℕ) → Holds h t to (node_facts by n xs) → (j f m : ℕ) → value_in (get_or xs j past).values f ≡ Some m → value_of t (to (by + (n + j))) f ≡ Some (to (by + m))
     values_down [] n k j f m e = absurd (none_some e)
     values_down (x ∷ xs) n k zero f m e =
         let same : n ≡ n + zero = omega arith in
         subst (λ i. value_of t (to (by + i)) f ≡ Some (to (by + m))) same
-          (k (Value (by + n) f (by + m)) (inr (has_left (value_facts by n x.values) (node_facts by (suc n) xs) (Value (by + n) f (by + m)) (value_told n x.values f m e))))
+        (k (Value (by + n) f (by + m)) (inr (has_left (value_facts by n x.values) (node_facts by (suc n) xs) (Value (by + n) f (by + m)) (value_told n x.values f m e))))
     values_down (x ∷ xs) n k (suc j) f m e =
         let same : suc n + j ≡ n + suc j = omega arith in
         subst (λ i. value_of t (to (by + i)) f ≡ Some (to (by + m))) same
-          (values_down xs (suc n) (λ y there. k y (has_right (OfType (by + n) x.of ∷ value_facts by n x.values) (node_facts by (suc n) xs) y there)) j f m e)
+        (values_down xs (suc n) (λ y there. k y (has_right (OfType (by + n) x.of ∷ value_facts by n x.values) (node_facts by (suc n) xs) y there)) j f m e)
 
     down : (g : Structure) → ((n : ℕ) → n < count g → to (by + n) < count t) → Holds h t to (graph_facts by g) → IsMorphismAside h g t (λ n. to (by + n))
     down g into k = record {
@@ -92,20 +92,20 @@ module _ (by : ℕ) where
             later (eqb w.0 v.0) refl less (ih there)
 
     values_up : (n : ℕ) (vs ws : List (ℕ × ℕ)) → ((v : ℕ × ℕ) → Has vs v → value_in ws v.0 ≡ Some v.1) → ((f m : ℕ) → value_in ws f ≡ Some m → value_of t (to (by + n)) f ≡ Some (to (by + m))) →
-      Holds h t to (value_facts by n vs)
+        Holds h t to (value_facts by n vs)
     values_up n [] ws among on x k = absurd k
     values_up n (v ∷ vs) ws among on x (inl e) = subst (HoldsFact h t to) (sym e) (on v.0 v.1 (among v (inl refl)))
     values_up n (v ∷ vs) ws among on x (inr k) = values_up n vs ws (λ u there. among u (inr there)) on x k
 
     nodes_up : (xs : List Node) (n : ℕ) → ((j : ℕ) → j < length xs → is_rising (get_or xs j past).values ≡ true) →
-      ((j : ℕ) → j < length xs → Above h (get_or xs j past).of (type_of t (to (by + (n + j))))) →
-      ((j f m : ℕ) → value_in (get_or xs j past).values f ≡ Some m → value_of t (to (by + (n + j))) f ≡ Some (to (by + m))) →
-      Holds h t to (node_facts by n xs)
+        ((j : ℕ) → j < length xs → Above h (get_or xs j past).of (type_of t (to (by + (n + j))))) →
+        ((j f m : ℕ) → value_in (get_or xs j past).values f ≡ Some m → value_of t (to (by + (n + j))) f ≡ Some (to (by + m))) →
+        Holds h t to (node_facts by n xs)
     nodes_up [] n rising types values x k = absurd k
     nodes_up (y ∷ xs) n rising types values x k = go
         (nodes_up xs (suc n) (λ j low. rising (suc j) (omega arith))
-          (λ j low. on j (λ i. Above h (get_or xs j past).of (type_of t (to (by + i)))) (types (suc j) (omega arith)))
-          (λ j f m e. on j (λ i. value_of t (to (by + i)) f ≡ Some (to (by + m))) (values (suc j) f m e)))
+        (λ j low. on j (λ i. Above h (get_or xs j past).of (type_of t (to (by + i)))) (types (suc j) (omega arith)))
+        (λ j f m e. on j (λ i. value_of t (to (by + i)) f ≡ Some (to (by + m))) (values (suc j) f m e)))
         (has_either (OfType (by + n) y.of ∷ value_facts by n y.values) (node_facts by (suc n) xs) x k)
       where
         back : (P : ℕ → Type 0) → P (n + zero) → P n
@@ -118,7 +118,7 @@ module _ (by : ℕ) where
         go rest (inl (inl e)) = subst (HoldsFact h t to) (sym e) (back (λ i. Above h y.of (type_of t (to (by + i)))) (types zero (omega arith)))
         go rest (inl (inr there)) =
             values_up n y.values y.values (value_there y.values (rising zero (omega arith)))
-              (λ f m e. back (λ i. value_of t (to (by + i)) f ≡ Some (to (by + m))) (values zero f m e)) x there
+            (λ f m e. back (λ i. value_of t (to (by + i)) f ≡ Some (to (by + m))) (values zero f m e)) x there
         go rest (inr there) = rest x there
 
     pairs_up : (ps : List (ℕ × ℕ)) → ((a b : ℕ) → Has ps (a, b) → to (by + a) ≢ to (by + b)) → Holds h t to (pair_facts by ps)
@@ -140,8 +140,8 @@ module _ (by : ℕ) where
 
         go : Has (node_facts by 0 g.nodes) x ⊎ Has (pair_facts by g.differ) x → HoldsFact h t to x
         go (inl there) = nodes_up g.nodes 0 rising
-          (λ j low. to_zero j (λ i. Above h (type_of g j) (type_of t (to (by + i)))) (m.types j low))
-          (λ j f v e. to_zero j (λ i. value_of t (to (by + i)) f ≡ Some (to (by + v))) (m.values j f v e)) x there
+            (λ j low. to_zero j (λ i. Above h (type_of g j) (type_of t (to (by + i)))) (m.types j low))
+            (λ j f v e. to_zero j (λ i. value_of t (to (by + i)) f ≡ Some (to (by + v))) (m.values j f v e)) x there
         go (inr there) = pairs_up g.differ m.differs x there
 
 pub put_law : PutLaws

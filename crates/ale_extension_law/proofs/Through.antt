@@ -1,6 +1,5 @@
 -- Extensions of extensions, and maps that agree with a morphism on the nodes.
-use Rattle.std.proofs.Common.{◌≡◌, ◌≢◌, ℕ, ◌<◌, List, ◌++◌, append_assoc, sym, ap, ◌∙◌, subst, arith, Some}
-use Rattle.ale_declared.specs.Lists.{Has}
+use Rattle.std.proofs.Common.{◌≡◌, ℕ, ◌<◌, List, ◌++◌, append_assoc, sym, ap, ◌∙◌, subst, Some}
 use Rattle.ale_hierarchy.specs.Hierarchy.{Hierarchy, Above}
 use Rattle.ale_graph.specs.declared.node.Node.{Node}
 use Rattle.ale_graph.specs.Structures.{Structure, IsStructure, count, type_of, value_of}

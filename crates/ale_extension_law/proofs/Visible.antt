@@ -1,14 +1,14 @@
 -- An extension adds nothing visible: no node of the structure leads to an added one.
-use Rattle.std.proofs.Common.{◌≡◌, ℕ, zero, suc, ◌+◌, ◌-◌, ◌<◌, ◌≤◌, Bool, true, false, ◌&&◌, eqb, ltb, IsTrue, ◌↔◌, List, [], ◌∷◌, ◌++◌, map, length, get_or, ◌⊎◌, inl, inr, refl, sym, ap, ◌∙◌, subst, arith, Option, Some, None, if◌then◌else◌}
+use Rattle.std.proofs.Common.{◌≡◌, ℕ, zero, suc, ◌+◌, ◌-◌, ◌<◌, ◌≤◌, Bool, true, false, ◌&&◌, ltb, IsTrue, ◌↔◌, List, [], ◌∷◌, ◌++◌, map, length, get_or, inl, inr, refl, sym, ap, ◌∙◌, subst, arith, Option, Some, None, if◌then◌else◌}
 use Rattle.std.specs.Prelude.{option_map}
 use Rattle.std.proofs.lemmas.Bool.{and_parts, and_from, ltb-true, lt-ltb}
 use Rattle.ale_declared.specs.Lists.{Has, every}
 use Rattle.ale_hierarchy.specs.Hierarchy.{Hierarchy}
 use Rattle.ale_graph.specs.declared.node.Node.{Node}
-use Rattle.ale_graph.specs.Structures.{Structure, IsStructure, count, node_at, value_in, value_of, root_at, is_node, is_rising, is_root, is_formed}
+use Rattle.ale_graph.specs.Structures.{Structure, count, node_at, value_in, is_node, is_rising, is_root, is_formed}
 use Rattle.ale_graph.specs.Extensions.{Extends}
 use Rattle.ale_graph.proofs.Lists.{every_has, has_either}
-use Rattle.ale_graph.proofs.Structures.{get_has, value_from, value_inside}
+use Rattle.ale_graph.proofs.Structures.{get_has, value_inside}
 use Rattle.ale_morphism.specs.Visible.{Visible, root, differs_first, differs_second, value, is_visible, visible_below, renumbered, visible_node, visible}
 use Rattle.ale_morphism.specs.VisibleLaws.{VisibleLaw}
 use Rattle.ale_logic.specs.Growing.{rooted, VisibleStays}
@@ -166,7 +166,7 @@ module _ (law : VisibleLaw) (h : Hierarchy) (s t : Structure) (roots : List (Opt
   same_pairs =
       ap (map (pair_by (renumbered large))) ext.differ
       ∙ map_alike (pair_by (renumbered large)) (pair_by (renumbered small)) s.differ
-        (λ p has. one p (pair_inside s ext.smaller.formed p has))
+      (λ p has. one p (pair_inside s ext.smaller.formed p has))
     where
       one : (p : ℕ × ℕ) → (p.0 < count s) × (p.1 < count s) → pair_by (renumbered large) p ≡ pair_by (renumbered small) p
       one p both = ap (λ i. made i (renumbered large p.1)) (same_number p.0 both.0) ∙ ap (made (renumbered small p.0)) (same_number p.1 both.1)

@@ -1,22 +1,20 @@
 -- What the answers of a generation mean: complete, sound, and part of a solution.
-use Rattle.std.proofs.Common.{◌≡◌, ℕ, ◌+◌, ◌<◌, ◌≤◌, true, List, [], ◌∷◌, length, map, ◌⊎◌, inl, inr, refl, sym, ap, ◌∙◌, subst, arith, Option, Some, None}
+use Rattle.std.proofs.Common.{◌≡◌, ℕ, ◌<◌, true, List, [], ◌∷◌, map, ◌⊎◌, inl, inr, refl, sym, ap, ◌∙◌, subst, arith}
 use Rattle.ale_declared.specs.Lists.{Has}
-use Rattle.ale_hierarchy.specs.Hierarchy.{Hierarchy, Above, IsLawful}
-use Rattle.ale_graph.specs.Structures.{Structure, IsStructure, count, type_of}
+use Rattle.ale_hierarchy.specs.Hierarchy.{Hierarchy}
+use Rattle.ale_graph.specs.Structures.{Structure, IsStructure, count}
 use Rattle.ale_graph.specs.Morphisms.{IsMorphismAside}
-use Rattle.ale_graph.specs.Extensions.{Extends}
 use Rattle.ale_graph.specs.Closure.{node_of}
 use Rattle.ale_graph.proofs.Lists.{has_map}
 use Rattle.ale_morphism.specs.VisibleLaws.{VisibleLaw}
-use Rattle.ale_logic.specs.Descriptions.{Description, HoldsAt, Describes, FitsDescription}
-use Rattle.ale_logic.specs.Programs.{Word, Constraint, Program}
-use Rattle.ale_logic.specs.Models.{MeetsConstraint, MeetsAt, constraint_at, IsModel}
+use Rattle.ale_logic.specs.Descriptions.{Description, HoldsAt, FitsDescription}
+use Rattle.ale_logic.specs.Programs.{Word, Program}
+use Rattle.ale_logic.specs.Models.{MeetsConstraint, MeetsAt}
 use Rattle.ale_logic.specs.Words.{Entry, IsEntry, Words, Grammar, HasEntry, HasEmpty}
 use Rattle.ale_logic.specs.Lexical.{Lexical, IsEmptyCategory}
 use Rattle.ale_logic.specs.Headed.{Headed}
-use Rattle.ale_logic.specs.Solutions.{IsRoot, IsHeaded, SolvesGeneration}
-use Rattle.ale_logic.specs.Spelling.{spell, spelled}
-use Rattle.ale_logic.specs.States.{Piece, State}
+use Rattle.ale_logic.specs.Solutions.{IsHeaded, SolvesGeneration}
+use Rattle.ale_logic.specs.Spelling.{spelled}
 use Rattle.ale_logic.specs.Starts.{start_gen}
 use Rattle.ale_logic.specs.StartLaws.{IsStart}
 use Rattle.ale_logic.specs.Visits.{Answer}
@@ -24,14 +22,14 @@ use Rattle.ale_logic.specs.Parts.{kept_answer}
 use Rattle.ale_logic.specs.Shown.{words_of}
 use Rattle.ale_logic.specs.Lexicons.{with_words}
 use Rattle.ale_logic.specs.Satisfaction.{Sense, Satisfies}
-use Rattle.ale_logic.specs.Steps.{IsGrammar, IsAccounted, IsInFragment, SpellingLaw, SpellingLaws}
+use Rattle.ale_logic.specs.Steps.{IsGrammar, IsAccounted, IsInFragment, SpellingLaw}
 use Rattle.ale_logic.specs.Runs.{FreeSense, Returns, RunLaw, RunLaws}
 use Rattle.ale_logic.specs.Staying.{StaysLaw}
-use Rattle.ale_logic.specs.Extending.{AddedMeet, IsSoundFor, HasSoundExtension, OwesNothing}
+use Rattle.ale_logic.specs.Extending.{HasSoundExtension, OwesNothing}
 use Rattle.ale_logic.specs.Answers.{IsAccepted, SubsumesAt}
 use Rattle.ale_logic.specs.Growing.{GrowsTo}
 use Rattle.ale_logic.specs.LexiconLaws.{AreSoundWords, AreAllWords}
-use Rattle.ale_logic.specs.GenerationLaws.{generated_from, IsGenerated, GenerationLaw, GenerationLaws}
+use Rattle.ale_logic.specs.GenerationLaws.{generated_from, IsGenerated, GenerationLaws}
 use Rattle.ale_extension_law.proofs.Stays.{stays_law, within}
 use Rattle.ale_extension_law.proofs.Spells.{spelling_law}
 use Rattle.ale_extension_law.proofs.Grows.{grows}
@@ -39,7 +37,7 @@ use Rattle.ale_run_law.proofs.First.{none_bound, generation_starts, stands, Came
 use Rattle.ale_run_law.proofs.Kept.{keepable}
 use Rattle.ale_generation_law.proofs.HeadedOn.{headed_on}
 use Rattle.ale_generation_law.proofs.Soon.{extends_self, Later, Soon, Stays, soon_now, soon_map, soon_both}
-use Rattle.ale_generation_law.proofs.Rising.{IsHeadedIn, headed_stays, headed_soon, brought_soon}
+use Rattle.ale_generation_law.proofs.Rising.{headed_stays, headed_soon, brought_soon}
 
 module _ (runs : RunLaws) (h : Hierarchy) (program : Program) (words : Words) (accepted : IsAccepted h program) (sound_words : AreSoundWords h program words) (slots : ℕ) (d : Description) (budget : ℕ) (fit : FitsDescription h slots d) where
   abbrev gr : Grammar
@@ -68,7 +66,7 @@ module _ (runs : RunLaws) (h : Hierarchy) (program : Program) (words : Words) (a
   spelling a has = let c = came a has in spelling_law h a.state c.is.is (c.is.once starts.once)
 
   complete : AreAllWords h program words → (generated_from h program words budget slots d).finished ≡ true → (s : Structure) (n : ℕ) (ws : List Word) → SolvesGeneration h program d s n ws →
-    (a : Answer) × Has (generated_from h program words budget slots d).answers a × (words_of a 0 ≡ ws) × SubsumesAt h a.closed.graph (node_of a.closed 0) s n
+      (a : Answer) × Has (generated_from h program words budget slots d).answers a × (words_of a 0 ≡ ws) × SubsumesAt h a.closed.graph (node_of a.closed 0) s n
   complete all fin s n ws (root, describes, headed) =
       let r = law.reached (only_inside gr (start_gen slots d) inside) fin s (start_gen slots d) sense [] (record { has = inl refl; is = record { model = root.model; satisfies = sat } }) in
       let c = came r.answer r.has in
@@ -112,13 +110,13 @@ module _ (runs : RunLaws) (h : Hierarchy) (program : Program) (words : Words) (a
 
     -- what was imposed is soon met
     pairs_soon : (s : Structure) (to : ℕ → ℕ) → IsStructure h s → (m : IsMorphismAside h a.closed.graph s to) → (pairs : List (ℕ × ℕ)) → ((p : ℕ × ℕ) → Has pairs p → Has a.state.imposed p) →
-      Soon h program s (λ t. (n k : ℕ) → Has pairs (n, k) → MeetsAt h program t k (to (node_of a.closed n)))
+        Soon h program s (λ t. (n k : ℕ) → Has pairs (n, k) → MeetsAt h program t k (to (node_of a.closed n)))
     pairs_soon s to str m [] within_all = soon_now h program s (λ t. (n k : ℕ) → Has {A = ℕ × ℕ} [] (n, k) → MeetsAt h program t k (to (node_of a.closed n))) (λ u ext n k none. absurd none)
     pairs_soon s to str m (p ∷ ps) within_all =
         soon_map h program s (λ t. MeetsAt h program t p.1 (to (node_of a.closed p.0)) × ((n k : ℕ) → Has ps (n, k) → MeetsAt h program t k (to (node_of a.closed n))))
-          (λ t. (n k : ℕ) → Has (p ∷ ps) (n, k) → MeetsAt h program t k (to (node_of a.closed n))) (λ u ext both n k there. go u both n k there)
-          (soon_both h program s (λ t. MeetsAt h program t p.1 (to (node_of a.closed p.0))) (λ t. (n k : ℕ) → Has ps (n, k) → MeetsAt h program t k (to (node_of a.closed n))) stays_met (one_soon (r.accounted p (within_all p (inl refl))))
-            (pairs_soon s to str m ps (λ q k. within_all q (inr k))))
+        (λ t. (n k : ℕ) → Has (p ∷ ps) (n, k) → MeetsAt h program t k (to (node_of a.closed n))) (λ u ext both n k there. go u both n k there)
+        (soon_both h program s (λ t. MeetsAt h program t p.1 (to (node_of a.closed p.0))) (λ t. (n k : ℕ) → Has ps (n, k) → MeetsAt h program t k (to (node_of a.closed n))) stays_met (one_soon (r.accounted p (within_all p (inl refl))))
+        (pairs_soon s to str m ps (λ q k. within_all q (inr k))))
       where
         r : Returns gr s (start_gen slots d) a to (free s to m)
         r = returned s to str m
@@ -136,7 +134,7 @@ module _ (runs : RunLaws) (h : Hierarchy) (program : Program) (words : Words) (a
         one_soon (inl none) = absurd none
         one_soon (inr (inl met)) =
             soon_now h program s (λ t. MeetsAt h program t p.1 (to (node_of a.closed p.0)))
-              (λ u ext c at. (stays_law h program s u ext).meets c (to (node_of a.closed p.0)) low (subst (MeetsConstraint h program s c) (r.node p.0) (met c at)))
+            (λ u ext c at. (stays_law h program s u ext).meets c (to (node_of a.closed p.0)) low (subst (MeetsConstraint h program s c) (r.node p.0) (met c at)))
         one_soon (inr (inr brought)) =
             subst (λ z. Soon h program s (λ t. MeetsAt h program t p.1 z)) (r.node p.0) (brought_soon h program words sound_words s (r.sense.node p.0) p.1 brought)
 
@@ -151,11 +149,11 @@ module _ (runs : RunLaws) (h : Hierarchy) (program : Program) (words : Words) (a
       sound = record {
         added = t.added;
         images = λ n k c low at above.
-          let i = (came a has).is.all_imposed n k c low at above in
-          subst (λ z. MeetsConstraint h program t.larger c (to z)) i.2 (t.says.1 i.0 k i.1 c at);
+            let i = (came a has).is.all_imposed n k c low at above in
+            subst (λ z. MeetsConstraint h program t.larger c (to z)) i.2 (t.says.1 i.0 k i.1 c at);
         imposed = λ n k there.
-          let f = has_map (λ (p : ℕ × ℕ). (node_of a.closed p.0, p.1)) a.state.imposed (n, k) there in
-          subst (λ (q : ℕ × ℕ). MeetsAt h program t.larger q.1 (to q.0)) (sym f.2) (t.says.1 f.0.0 f.0.1 f.1);
+            let f = has_map (λ (p : ℕ × ℕ). (node_of a.closed p.0, p.1)) a.state.imposed (n, k) there in
+            subst (λ (q : ℕ × ℕ). MeetsAt h program t.larger q.1 (to q.0)) (sym f.2) (t.says.1 f.0.0 f.0.1 f.1);
       };
       says = record {
         describes = record {
@@ -173,12 +171,12 @@ module _ (runs : RunLaws) (h : Hierarchy) (program : Program) (words : Words) (a
         headed_here : Headed h program s (HasEntry gr s) (HasEmpty gr s) (to (node_of a.closed 0)) (words_of a 0)
         headed_here =
             subst (λ z. Headed h program s (HasEntry gr s) (HasEmpty gr s) z (words_of a 0)) (r.node 0)
-              (subst (Headed h program s (HasEntry gr s) (HasEmpty gr s) (r.sense.node 0)) (r.words 0) r.satisfies.items.1.0)
+            (subst (Headed h program s (HasEntry gr s) (HasEmpty gr s) (r.sense.node 0)) (r.words 0) r.satisfies.items.1.0)
 
         t : Later h program s (λ t. IsHeaded h program t (to (node_of a.closed 0)) (words_of a 0) × ((n k : ℕ) → Has a.state.imposed (n, k) → MeetsAt h program t k (to (node_of a.closed n))))
         t = soon_both h program s (λ t. IsHeaded h program t (to (node_of a.closed 0)) (words_of a 0)) (λ t. (n k : ℕ) → Has a.state.imposed (n, k) → MeetsAt h program t k (to (node_of a.closed n)))
-          (headed_stays h program words sound_words s (to (node_of a.closed 0)) (words_of a 0)) (headed_soon h program words sound_words s (to (node_of a.closed 0)) (words_of a 0) headed_here)
-          (pairs_soon s to str m a.state.imposed (λ p k. k)) s (extends_self h s str)
+            (headed_stays h program words sound_words s (to (node_of a.closed 0)) (words_of a 0)) (headed_soon h program words sound_words s (to (node_of a.closed 0)) (words_of a 0) headed_here)
+            (pairs_soon s to str m a.state.imposed (λ p k. k)) s (extends_self h s str)
 
         on : StaysLaw h program s t.larger
         on = stays_law h program s t.larger t.extends
@@ -197,9 +195,9 @@ module _ (runs : RunLaws) (h : Hierarchy) (program : Program) (words : Words) (a
     solved : VisibleLaw → GrowsTo h a.closed.graph (node_of a.closed 0) (λ t. SolvesGeneration h program d t (node_of a.closed 0) (words_of a 0))
     solved visible =
         grows visible h program (kept_answer a) (node_of a.closed 0) (IsGenerated h program d (words_of a 0) (node_of a.closed 0)) (λ t. SolvesGeneration h program d t (node_of a.closed 0) (words_of a 0))
-          (keepable gr (start_gen slots d) a (came a has).is 0 (let next = (came a has).is.next in omega arith)).is owes_nothing
-          (sound a.closed.graph (λ n. n) (came a has).is.structure (stands h accepted.lawful a.closed.graph (came a has).is.structure))
-          (λ t model larger says. (record { model = model; node = (let low = low_root in omega arith) }, says.describes, says.headed))
+        (keepable gr (start_gen slots d) a (came a has).is 0 (let next = (came a has).is.next in omega arith)).is owes_nothing
+        (sound a.closed.graph (λ n. n) (came a has).is.structure (stands h accepted.lawful a.closed.graph (came a has).is.structure))
+        (λ t model larger says. (record { model = model; node = (let low = low_root in omega arith) }, says.describes, says.headed))
 
 pub generation_law : RunLaws → VisibleLaw → GenerationLaws
 generation_law runs visible h program words slots d budget accepted fit sound_words = record {

@@ -1,10 +1,9 @@
 -- What is headed by words stays so in an extension, and where words and empties stand at more nodes.
-use Rattle.std.proofs.Common.{◌≡◌, ℕ, suc, ◌<◌, ◌≤◌, List, [], ◌∷◌, ◌++◌, subst, Some, None}
+use Rattle.std.proofs.Common.{ℕ, ◌<◌, List, [], ◌∷◌}
 use Rattle.ale_hierarchy.specs.Hierarchy.{Hierarchy}
 use Rattle.ale_graph.specs.Structures.{Structure, count}
 use Rattle.ale_graph.specs.Extensions.{Extends}
-use Rattle.ale_logic.specs.Descriptions.{Description, HoldsAt}
-use Rattle.ale_logic.specs.Programs.{Word, Element, cat, cats, derived, sem_head, member, tail, Rule, Program}
+use Rattle.ale_logic.specs.Programs.{Word, Element, Program}
 use Rattle.ale_logic.specs.ListNodes.{IsCell}
 use Rattle.ale_logic.specs.Headed.{Means, Headed, IsPivot, IsChain, Spells, HeadedList}
 use Rattle.ale_logic.specs.Headed.Headed.{by_pivot}
@@ -55,7 +54,7 @@ module _ (h : Hierarchy) (program : Program) (s t : Structure) (ext : Extends h 
     chain_on p us _ _ _ low (arrived _ _) = arrived p us
     chain_on p us n ws _ low (upward _ q _ c _ vs _ r d assign has some nodes inside mother below spells chain) =
         upward p q n c us vs ws r d assign has some ((stays_law h program s t ext).assigns assign nodes) (within h s t ext q inside) ((stays_law h program s t ext).holds assign r.mother q inside mother) ((stays_law h program s t ext).holds assign d p low below)
-          (spells_on assign us r.elements vs spells) (chain_on q vs n ws c inside chain)
+        (spells_on assign us r.elements vs spells) (chain_on q vs n ws c inside chain)
 
     pub spells_on : (assign : ℕ → ℕ) (us : List Word) (es : List Element) (vs : List Word) → Spells h program s at_word at_empty assign us es vs → Spells h program t now_word now_empty assign us es vs
     spells_on assign us _ _ (spelled _ _) = spelled assign us

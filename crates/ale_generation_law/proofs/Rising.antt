@@ -1,15 +1,14 @@
 -- What is headed where entries and empties stand is soon headed where words are lexical and empty categories are.
-use Rattle.std.proofs.Common.{◌≡◌, ℕ, suc, ◌<◌, ◌≤◌, List, [], ◌∷◌, ◌++◌, ◌⊎◌, inl, inr, refl, sym, ap, ◌∙◌, subst, Option, Some, None}
+use Rattle.std.proofs.Common.{◌≡◌, ℕ, suc, ◌<◌, List, [], ◌∷◌, ◌++◌, ◌⊎◌, inl, inr, sym, subst}
 use Rattle.ale_declared.specs.Lists.{Has}
 use Rattle.ale_hierarchy.specs.Hierarchy.{Hierarchy, Above}
-use Rattle.ale_graph.specs.Structures.{Structure, IsStructure, count, type_of}
+use Rattle.ale_graph.specs.Structures.{Structure, count, type_of}
 use Rattle.ale_graph.specs.Morphisms.{IsMorphismAside}
 use Rattle.ale_graph.specs.Extensions.{Extends}
-use Rattle.ale_logic.specs.Descriptions.{Description, HoldsAt}
-use Rattle.ale_logic.specs.Programs.{Word, Element, cat, cats, derived, sem_head, member, tail, Rule, Program}
+use Rattle.ale_logic.specs.Programs.{Word, Element, cat, cats, derived, sem_head, Program}
 use Rattle.ale_logic.specs.ListNodes.{IsCell}
 use Rattle.ale_logic.specs.Models.{MeetsAt}
-use Rattle.ale_logic.specs.Words.{Entry, Words, Grammar, HasEntry, HasEmpty, StandsAt}
+use Rattle.ale_logic.specs.Words.{Entry, Words, Grammar, HasEntry, HasEmpty}
 use Rattle.ale_logic.specs.Lexical.{Lexical, LexicalAt, IsEmptyCategory}
 use Rattle.ale_logic.specs.Headed.{Means, Headed, IsPivot, IsChain, Spells, HeadedList}
 use Rattle.ale_logic.specs.Headed.Headed.{by_pivot}
@@ -21,8 +20,8 @@ use Rattle.ale_logic.specs.Lexicons.{with_words}
 use Rattle.ale_logic.specs.LexiconLaws.{AreSoundWords}
 use Rattle.ale_logic.specs.Steps.{IsBrought}
 use Rattle.ale_extension_law.proofs.Stays.{stays_law, within, type_stays, value_stays}
-use Rattle.ale_generation_law.proofs.HeadedOn.{headed_inside, list_inside, pivot_inside, means_on, cell_on, headed_on, pivot_on, chain_on, spells_on, list_on_larger}
-use Rattle.ale_generation_law.proofs.Soon.{extends_self, Later, Soon, Stays, soon_now, soon_map, soon_both}
+use Rattle.ale_generation_law.proofs.HeadedOn.{headed_inside, list_inside, pivot_inside, means_on, cell_on, headed_on, pivot_on, spells_on, list_on_larger}
+use Rattle.ale_generation_law.proofs.Soon.{Later, Soon, Stays, soon_now, soon_map, soon_both}
 
 -- a morphism into s is one into each extension
 pub morphism_on : (h : Hierarchy) (g s t : Structure) → Extends h s t → (map : ℕ → ℕ) → IsMorphismAside h g s map → IsMorphismAside h g t map
@@ -123,28 +122,28 @@ module _ (h : Hierarchy) (program : Program) (words : Words) (sound : AreSoundWo
     pub headed_soon : (n : ℕ) (ws : List Word) → Headed h program s (HasEntry gr s) (HasEmpty gr s) n ws → Soon h program s (IsHeadedIn n ws)
     headed_soon n ws (by_pivot _ sem p c us _ low inside means pv few chain) =
         soon_map h program s (λ t. IsPivotIn p sem us t × IsChainIn p us n ws c t) (IsHeadedIn n ws)
-          (λ u ext k. by_pivot n sem p c us ws (within h s u ext n low) (within h s u ext sem inside) (means_in u ext n sem means) k.0 few k.1)
-          (soon_both h program s (IsPivotIn p sem us) (IsChainIn p us n ws c) (pivot_stays p sem us) (pivot_soon p sem us pv) (chain_soon p us n ws c (pivot_inside h program s (HasEntry gr s) (HasEmpty gr s) p sem us pv) chain))
+        (λ u ext k. by_pivot n sem p c us ws (within h s u ext n low) (within h s u ext sem inside) (means_in u ext n sem means) k.0 few k.1)
+        (soon_both h program s (IsPivotIn p sem us) (IsChainIn p us n ws c) (pivot_stays p sem us) (pivot_soon p sem us pv) (chain_soon p us n ws c (pivot_inside h program s (HasEntry gr s) (HasEmpty gr s) p sem us pv) chain))
 
     pivot_soon : (p sem : ℕ) (us : List Word) → IsPivot h program s (HasEntry gr s) (HasEmpty gr s) p sem us → Soon h program s (IsPivotIn p sem us)
     pivot_soon p sem _ (word_pivot _ _ w low entry means) =
         soon_map h program s (λ t. Lexical h program t w p) (IsPivotIn p sem (w ∷ []))
-          (λ u ext k. word_pivot p sem w (within h s u ext p low) k (means_in u ext p sem means)) (word_soon w p entry)
+        (λ u ext k. word_pivot p sem w (within h s u ext p low) k (means_in u ext p sem means)) (word_soon w p entry)
     pivot_soon p sem _ (empty_pivot _ _ low entry means) =
         soon_map h program s (λ t. IsEmptyCategory h program t p) (IsPivotIn p sem [])
-          (λ u ext k. empty_pivot p sem (within h s u ext p low) k (means_in u ext p sem means)) (empty_soon p entry)
+        (λ u ext k. empty_pivot p sem (within h s u ext p low) k (means_in u ext p sem means)) (empty_soon p entry)
     pivot_soon p sem us (rule_pivot _ _ _ r assign has none nodes low mother means spells) =
         soon_map h program s (SpellsIn assign [] r.elements us) (IsPivotIn p sem us)
-          (λ u ext k. rule_pivot p sem us r assign has none ((stays_law h program s u ext).assigns assign nodes) (within h s u ext p low) ((stays_law h program s u ext).holds assign r.mother p low mother) (means_in u ext p sem means) k)
-          (spells_soon assign [] r.elements us spells)
+        (λ u ext k. rule_pivot p sem us r assign has none ((stays_law h program s u ext).assigns assign nodes) (within h s u ext p low) ((stays_law h program s u ext).holds assign r.mother p low mother) (means_in u ext p sem means) k)
+        (spells_soon assign [] r.elements us spells)
 
     chain_soon : (p : ℕ) (us : List Word) (n : ℕ) (ws : List Word) (c : ℕ) → p < count s → IsChain h program s (HasEntry gr s) (HasEmpty gr s) p us n ws c → Soon h program s (IsChainIn p us n ws c)
     chain_soon p us _ _ _ low (arrived _ _) = soon_now h program s (IsChainIn p us p us 0) (λ u ext. arrived p us)
     chain_soon p us n ws _ low (upward _ q _ c _ vs _ r d assign has some nodes inside mother below spells chain) =
         soon_map h program s (λ t. SpellsIn assign us r.elements vs t × IsChainIn q vs n ws c t) (IsChainIn p us n ws (suc c))
-          (λ u ext k. upward p q n c us vs ws r d assign has some ((stays_law h program s u ext).assigns assign nodes) (within h s u ext q inside) ((stays_law h program s u ext).holds assign r.mother q inside mother)
-            ((stays_law h program s u ext).holds assign d p low below) k.0 k.1)
-          (soon_both h program s (SpellsIn assign us r.elements vs) (IsChainIn q vs n ws c) (spells_stay assign us r.elements vs) (spells_soon assign us r.elements vs spells) (chain_soon q vs n ws c inside chain))
+        (λ u ext k. upward p q n c us vs ws r d assign has some ((stays_law h program s u ext).assigns assign nodes) (within h s u ext q inside) ((stays_law h program s u ext).holds assign r.mother q inside mother)
+        ((stays_law h program s u ext).holds assign d p low below) k.0 k.1)
+        (soon_both h program s (SpellsIn assign us r.elements vs) (IsChainIn q vs n ws c) (spells_stay assign us r.elements vs) (spells_soon assign us r.elements vs spells) (chain_soon q vs n ws c inside chain))
 
     spells_soon : (assign : ℕ → ℕ) (us : List Word) (es : List Element) (vs : List Word) → Spells h program s (HasEntry gr s) (HasEmpty gr s) assign us es vs → Soon h program s (SpellsIn assign us es vs)
     spells_soon assign us _ _ (spelled _ _) = soon_now h program s (SpellsIn assign us [] []) (λ u ext. spelled assign us)
@@ -152,12 +151,12 @@ module _ (h : Hierarchy) (program : Program) (words : Words) (sound : AreSoundWo
         soon_map h program s (SpellsIn assign us es ws) (SpellsIn assign us (sem_head d ∷ es) (us ++ ws)) (λ u ext k. spells_head assign us d es ws k) (spells_soon assign us es ws rest)
     spells_soon assign us _ _ (spells_cat _ _ d es m vs ws here headed rest) =
         soon_map h program s (λ t. IsHeadedIn m vs t × SpellsIn assign us es ws t) (SpellsIn assign us (cat d ∷ es) (vs ++ ws))
-          (λ u ext k. spells_cat assign us d es m vs ws ((stays_law h program s u ext).holds assign d m (headed_inside h program s (HasEntry gr s) (HasEmpty gr s) m vs headed) here) k.0 k.1)
-          (soon_both h program s (IsHeadedIn m vs) (SpellsIn assign us es ws) (headed_stays m vs) (headed_soon m vs headed) (spells_soon assign us es ws rest))
+        (λ u ext k. spells_cat assign us d es m vs ws ((stays_law h program s u ext).holds assign d m (headed_inside h program s (HasEntry gr s) (HasEmpty gr s) m vs headed) here) k.0 k.1)
+        (soon_both h program s (IsHeadedIn m vs) (SpellsIn assign us es ws) (headed_stays m vs) (headed_soon m vs headed) (spells_soon assign us es ws rest))
     spells_soon assign us _ _ (spells_cats _ _ d es m vs ws here headed rest) =
         soon_map h program s (λ t. IsListIn m vs t × SpellsIn assign us es ws t) (SpellsIn assign us (cats d ∷ es) (vs ++ ws))
-          (λ u ext k. spells_cats assign us d es m vs ws ((stays_law h program s u ext).holds assign d m (list_inside h program s (HasEntry gr s) (HasEmpty gr s) m vs headed) here) k.0 k.1)
-          (soon_both h program s (IsListIn m vs) (SpellsIn assign us es ws) (list_stays m vs) (list_soon m vs headed) (spells_soon assign us es ws rest))
+        (λ u ext k. spells_cats assign us d es m vs ws ((stays_law h program s u ext).holds assign d m (list_inside h program s (HasEntry gr s) (HasEmpty gr s) m vs headed) here) k.0 k.1)
+        (soon_both h program s (IsListIn m vs) (SpellsIn assign us es ws) (list_stays m vs) (list_soon m vs headed) (spells_soon assign us es ws rest))
     spells_soon assign us _ _ (spells_goal _ _ g es ws derivable rest) =
         soon_map h program s (SpellsIn assign us es ws) (SpellsIn assign us (derived g ∷ es) ws) (λ u ext k. spells_goal assign us g es ws ((stays_law h program s u ext).derivable assign g derivable) k) (spells_soon assign us es ws rest)
 
@@ -165,5 +164,5 @@ module _ (h : Hierarchy) (program : Program) (words : Words) (sound : AreSoundWo
     list_soon m _ (list_end _ low empty) = soon_now h program s (IsListIn m []) (λ u ext. list_end m (within h s u ext m low) ((stays_law h program s u ext).empty_list m low empty))
     list_soon m _ (list_on _ hd tl vs ws low cell first others) =
         soon_map h program s (λ t. IsHeadedIn hd vs t × IsListIn tl ws t) (IsListIn m (vs ++ ws))
-          (λ u ext k. list_on m hd tl vs ws (within h s u ext m low) (cell_in u ext m hd tl low cell) k.0 k.1)
-          (soon_both h program s (IsHeadedIn hd vs) (IsListIn tl ws) (headed_stays hd vs) (headed_soon hd vs first) (list_soon tl ws others))
+        (λ u ext k. list_on m hd tl vs ws (within h s u ext m low) (cell_in u ext m hd tl low cell) k.0 k.1)
+        (soon_both h program s (IsHeadedIn hd vs) (IsListIn tl ws) (headed_stays hd vs) (headed_soon hd vs first) (list_soon tl ws others))

@@ -1,11 +1,11 @@
 -- What comes to hold in an extension whose added nodes meet the constraints of their types, in whatever extension one is.
-use Rattle.std.proofs.Common.{◌≡◌, ℕ, ◌<◌, ◌≤◌, List, [], ◌++◌, ◌⊎◌, inl, inr, refl, sym, ap, ◌∙◌, subst, arith, Some}
+use Rattle.std.proofs.Common.{◌<◌, ◌≤◌, [], ◌⊎◌, inl, inr, refl, sym, subst, arith}
 use Rattle.std.proofs.lemmas.List.{append-nil}
 use Rattle.ale_hierarchy.specs.Hierarchy.{Hierarchy, Above}
-use Rattle.ale_graph.specs.Structures.{Structure, IsStructure, count, type_of}
+use Rattle.ale_graph.specs.Structures.{Structure, IsStructure, count}
 use Rattle.ale_graph.specs.Extensions.{Extends}
-use Rattle.ale_logic.specs.Programs.{Constraint, Program}
-use Rattle.ale_logic.specs.Models.{MeetsConstraint, constraint_at}
+use Rattle.ale_logic.specs.Programs.{Program}
+use Rattle.ale_logic.specs.Models.{MeetsConstraint}
 use Rattle.ale_logic.specs.Extending.{AddedMeet}
 use Rattle.ale_extension_law.proofs.Stays.{stays_law}
 use Rattle.ale_extension_law.proofs.Through.{extends_through}

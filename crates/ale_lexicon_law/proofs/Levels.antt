@@ -1,14 +1,13 @@
 -- Levels of the lexicon: sound entries each, and where they ended, all that is lexical in a model.
-use Rattle.std.proofs.Common.{◌≡◌, ℕ, zero, suc, ◌+◌, ◌-◌, ◌<◌, ◌≤◌, true, List, [], ◌∷◌, ◌++◌, map, ◌⊎◌, inl, inr, refl, sym, ap, ◌∙◌, subst, arith, Option, Some, None}
-use Rattle.std.specs.List.{flat_map}
+use Rattle.std.proofs.Common.{◌≡◌, ℕ, zero, suc, ◌+◌, ◌-◌, ◌<◌, ◌≤◌, true, List, [], ◌∷◌, ◌++◌, ◌⊎◌, inl, inr, refl, sym, ap, ◌∙◌, subst, arith, Option, Some, None}
 use Rattle.std.proofs.lemmas.Bool.{and_parts}
 use Rattle.ale_declared.specs.Lists.{Has}
 use Rattle.ale_declared.proofs.ListLemmas.{Has-append_left, Has-append_right, Has-append_cases, Has-flat_map, flat_map_has}
 use Rattle.ale_hierarchy.specs.Hierarchy.{Hierarchy}
 use Rattle.ale_graph.specs.Structures.{Structure, count}
 use Rattle.ale_engine.specs.Engine.{answers_in}
-use Rattle.ale_engine.specs.Growth.{Task, Found, run_all}
-use Rattle.ale_engine.specs.GrowthLaws.{IsMade, HasRun}
+use Rattle.ale_engine.specs.Growth.{Found, run_all}
+use Rattle.ale_engine.specs.GrowthLaws.{IsMade}
 use Rattle.ale_engine.proofs.InTurn.{run_all_law}
 use Rattle.ale_logic.specs.Descriptions.{HoldsAt}
 use Rattle.ale_logic.specs.Programs.{Word, LexicalRule, Program}
@@ -58,10 +57,10 @@ all_due extract program xs t k =
     task_due extract program xs a.0 a.1 b.0 b.1 (b.0.becomes a.0.word) refl t b.2
 
 pub due_there : (extract : Extract) (program : Program) (xs : List Entry) (x : Entry) → Has xs x → (rule : LexicalRule) → Has program.lex_rules rule → (w : Word) → rule.becomes x.word ≡ Some w →
-  Has (level_tasks extract program xs) (record { waiting = start_lex rule x ∷ []; made = λ a. entry_of w (suc x.level) (extract (count x.kept.graph) a) })
+    Has (level_tasks extract program xs) (record { waiting = start_lex rule x ∷ []; made = λ a. entry_of w (suc x.level) (extract (count x.kept.graph) a) })
 due_there extract program xs x has rule has_rule w e =
     Has-flat_map (rule_tasks extract program.lex_rules) xs x task has
-      (Has-flat_map (rule_task extract x) program.lex_rules rule task has_rule (subst (λ o. Has (rule_task_for extract x rule o) task) (sym e) (inl refl)))
+    (Has-flat_map (rule_task extract x) program.lex_rules rule task has_rule (subst (λ o. Has (rule_task_for extract x rule o) task) (sym e) (inl refl)))
   where
     task : EntryTask
     task = record { waiting = start_lex rule x ∷ []; made = λ a. entry_of w (suc x.level) (extract (count x.kept.graph) a) }
@@ -82,11 +81,11 @@ module _ (runs : RunLaws) (extract : Extract) (h : Hierarchy) (program : Program
           let searched : m.task.waiting ≡ start_lex due.rule due.entry ∷ [] = ap (λ (t : EntryTask). t.waiting) due.is in
           let is : e ≡ entry_of due.word (suc due.entry.level) (extract (count due.entry.kept.graph) m.answer) = m.is ∙ ap (λ (t : EntryTask). t.made m.answer) due.is in
           subst (IsEntryAt h program (suc level)) (sym is)
-            (entry_there runs extract h program accepted keeps due.rule due.has_rule due.entry k.is m.budget m.answer
-              (subst (λ sts. Has (answers_in (visit gr) m.budget sts) m.answer) searched m.is_answer) due.word due.becomes level k)
+          (entry_there runs extract h program accepted keeps due.rule due.has_rule due.entry k.is m.budget m.answer
+          (subst (λ sts. Has (answers_in (visit gr) m.budget sts) m.answer) searched m.is_answer) due.word due.becomes level k)
 
   level_full : (level : ℕ) (xs : List Entry) → AreEntriesAt h program level xs → IsFullAt h program level xs → (left : ℕ) → (run_all (visit gr) (level_tasks extract program xs) left).finished ≡ true →
-    IsFullAt h program (suc level) (run_all (visit gr) (level_tasks extract program xs) left).all
+      IsFullAt h program (suc level) (run_all (visit gr) (level_tasks extract program xs) left).all
   level_full level xs good full left fin s model w n k = go (full s model k.word k.node k.lexical)
     where
       go : Stands h xs s k.word k.node → Stands h (run_all (visit gr) (level_tasks extract program xs) left).all s w n
@@ -94,7 +93,7 @@ module _ (runs : RunLaws) (extract : Extract) (h : Hierarchy) (program : Program
           let becomes : k.rule.becomes x.word ≡ Some w = ap k.rule.becomes same ∙ k.becomes in
           let run = (run_all_law State Answer Entry (visit gr) (level_tasks extract program xs) left).has_run fin _ (due_there extract program xs x has k.rule k.has w becomes) in
           let r = rule_full runs extract h program accepted keeps k.rule k.has x (good x has).is run.budget run.ended s model there.map there.is n k.inside k.assign k.nodes
-              (subst (HoldsAt h s k.assign k.rule.input) (sym there.root_to) k.input) k.output k.derived in
+          (subst (HoldsAt h s k.assign k.rule.input) (sym there.root_to) k.input) k.output k.derived in
           (entry_of w (suc x.level) (extract (count x.kept.graph) r.0), run.results r.0 r.1, refl, r.2 w)
 
   abbrev next : List Entry → ℕ → Found Entry
@@ -120,7 +119,7 @@ module _ (runs : RunLaws) (extract : Extract) (h : Hierarchy) (program : Program
 
   -- and all that is lexical at one of them has an entry
   pub levels_full : (more level : ℕ) (xs : List Entry) → AreEntriesAt h program level xs → IsFullAt h program level xs → (left : ℕ) → (levels extract gr more xs left).finished ≡ true → (d : ℕ) → d < more → IsFullAt h program (suc (level + d)) (levels extract gr more xs left).all
-  levels_full zero level xs good full left fin d few = absurd (omega arith)
+  levels_full zero level xs good full left fin d few s model w n k = absurd (omega arith)
   levels_full (suc more) level xs good full left fin d few s model w n k = go (levels_full more (suc level)) d few k
     where
       Later : Type 0

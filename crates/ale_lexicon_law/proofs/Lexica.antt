@@ -1,34 +1,32 @@
 -- The law of the lexicon: declared words and empty categories, the levels above, and what is looked up.
-use Rattle.std.proofs.Common.{◌≡◌, ℕ, zero, suc, ◌+◌, ◌-◌, ◌<◌, ◌≤◌, true, ◌&&◌, List, [], ◌∷◌, ◌++◌, map, ◌⊎◌, inl, inr, refl, sym, ap, ◌∙◌, subst, arith, Some}
+use Rattle.std.proofs.Common.{◌≡◌, ℕ, zero, suc, ◌+◌, ◌-◌, ◌<◌, ◌≤◌, true, ◌&&◌, [], ◌∷◌, ◌++◌, map, inl, inr, refl, sym, ap, ◌∙◌, subst, arith}
 use Rattle.std.proofs.lemmas.Bool.{and_parts}
 use Rattle.ale_declared.specs.Lists.{Has}
 use Rattle.ale_declared.proofs.ListLemmas.{Has-append_left, Has-append_right, Has-append_cases, Has-map, map_has}
 use Rattle.ale_hierarchy.specs.Hierarchy.{Hierarchy}
-use Rattle.ale_graph.specs.Structures.{Structure, IsStructure, count}
-use Rattle.ale_graph.specs.Morphisms.{IsMorphismAside}
+use Rattle.ale_graph.specs.Structures.{Structure, count}
 use Rattle.ale_morphism.specs.VisibleLaws.{VisibleLaw}
 use Rattle.ale_engine.specs.Engine.{answers_in}
-use Rattle.ale_engine.specs.Growth.{Task, Found, run_all}
-use Rattle.ale_engine.specs.GrowthLaws.{IsMade, HasRun}
+use Rattle.ale_engine.specs.Growth.{Found}
+use Rattle.ale_engine.specs.GrowthLaws.{IsMade}
 use Rattle.ale_engine.proofs.InTurn.{run_all_law}
-use Rattle.ale_logic.specs.Descriptions.{Description, Describes, FitsDescription}
+use Rattle.ale_logic.specs.Descriptions.{Description, FitsDescription}
 use Rattle.ale_logic.specs.Programs.{Word, WordDeclaration, EmptyDeclaration, Program}
 use Rattle.ale_logic.specs.Models.{IsModel}
-use Rattle.ale_logic.specs.Lexical.{LexicalAt, IsEmptyBy, IsEmptyCategory}
+use Rattle.ale_logic.specs.Lexical.{LexicalAt, IsEmptyBy}
 use Rattle.ale_logic.specs.Solutions.{SolvesWord}
-use Rattle.ale_logic.specs.Words.{Entry, IsEntry, StandsAt, HasEntry, HasEmpty, Grammar}
+use Rattle.ale_logic.specs.Words.{Entry, IsEntry, StandsAt, Grammar}
 use Rattle.ale_logic.specs.States.{State}
 use Rattle.ale_logic.specs.Starts.{start}
-use Rattle.ale_logic.specs.StartLaws.{IsQuietStart}
 use Rattle.ale_logic.specs.Visits.{Answer, visit}
 use Rattle.ale_logic.specs.Parts.{Extract}
-use Rattle.ale_logic.specs.Lexicons.{wordless, with_words, entry_of, EntryTask, word_task, empty_task, levels, declared_words, declared_empties, lexicon_of, lexicon}
+use Rattle.ale_logic.specs.Lexicons.{wordless, entry_of, EntryTask, word_task, empty_task, levels, declared_words, declared_empties, lexicon}
 use Rattle.ale_logic.specs.Growing.{GrowsTo}
 use Rattle.ale_logic.specs.Runs.{RunLaws}
-use Rattle.ale_logic.specs.Extending.{HasSoundExtension, OwesNothing}
-use Rattle.ale_logic.specs.PartLaws.{IsPart, PartLaw}
+use Rattle.ale_logic.specs.Extending.{OwesNothing}
+use Rattle.ale_logic.specs.PartLaws.{PartLaw}
 use Rattle.ale_logic.specs.Answers.{IsAccepted, found_from}
-use Rattle.ale_logic.specs.LexiconLaws.{IsSoundAs, KeptLaw, IsSoundEntry, IsSoundEmpty, AreSoundWords, AreAllWords, IsEmptyFrom, IsSoundEmptyFrom, HasEmptyFrom, LexiconLaw, LexiconLaws}
+use Rattle.ale_logic.specs.LexiconLaws.{IsSoundAs, KeptLaw, IsSoundEntry, IsEmptyFrom, IsSoundEmptyFrom, LexiconLaws}
 use Rattle.ale_graph.specs.Extensions.{Extends}
 use Rattle.ale_extension_law.proofs.Grows.{grows}
 use Rattle.ale_extension_law.proofs.Stays as stays
@@ -101,8 +99,7 @@ module _ (law : VisibleLaw) (runs : RunLaws) (extract : Extract) (h : Hierarchy)
           let fit = accepted.fits.empties d has_empty in
           let searched : m.task.waiting ≡ start d.slots d.desc ∷ [] = ap (λ (t : EntryTask). t.waiting) same in
           let found : Has (found_from h program m.budget (start d.slots d.desc)).answers m.answer = subst (λ sts. Has (answers_in (visit gr) m.budget sts) m.answer) searched m.is_answer in
-          let is : e ≡ entry_of [] 0 (extract 0 m.answer) = m.is ∙ ap (λ (t : EntryTask). t.made m.answer) same in
-          (
+          let is : e ≡ entry_of [] 0 (extract 0 m.answer) = m.is ∙ ap (λ (t : EntryTask). t.made m.answer) same in (
             record {
               declaration = d;
               has = has_empty;
@@ -117,11 +114,10 @@ module _ (law : VisibleLaw) (runs : RunLaws) (extract : Extract) (h : Hierarchy)
           )
 
   empty_full : (left : ℕ) → (declared_empties extract gr left).finished ≡ true → (d : EmptyDeclaration) → Has program.empties d → (s : Structure) → IsModel h program s → (n : ℕ) → IsEmptyBy h d s n →
-    (e : Entry) × Has (declared_empties extract gr left).all e × IsEmptyFrom extract h program d e × StandsAt h s e n
+      (e : Entry) × Has (declared_empties extract gr left).all e × IsEmptyFrom extract h program d e × StandsAt h s e n
   empty_full left fin d has s model n k =
       let run = (run_all_law State Answer Entry (visit gr) (map (empty_task extract) program.empties) left).has_run fin (empty_task extract d) (Has-map (empty_task extract) program.empties d has) in
-      let r = (law_of d.slots d.desc (accepted.fits.empties d has) run.budget).complete run.ended s n (record { model = model; node = k.0 }, k.1) in
-      (
+      let r = (law_of d.slots d.desc (accepted.fits.empties d has) run.budget).complete run.ended s n (record { model = model; node = k.0 }, k.1) in (
         entry_of [] 0 (extract 0 r.0),
         run.results r.0 r.1,
         record { task = empty_task extract d; has = inl refl; budget = run.budget; answer = r.0; is_answer = r.1; is = refl },
@@ -158,13 +154,13 @@ module _ (law : VisibleLaw) (runs : RunLaws) (extract : Extract) (h : Hierarchy)
   entries_full budget first beyond s model w n (suc d) few k =
       let same : d ≡ 0 + d = omega arith in
       let r = levels_full runs extract h program accepted keeps program.lex_depth 0 (words_in budget).all (word_sound budget) (word_full budget first) ((budget - (words_in budget).visits) - (empties_in budget).visits) beyond d (omega arith)
-          s model w n (subst (λ z. LexicalAt h program s (suc z) w n) same k) in
+      s model w n (subst (λ z. LexicalAt h program s (suc z) w n) same k) in
       (r.0, Has-append_right (words_in budget).all (above_in budget).all r.0 r.1, r.2, r.3)
 
   looked_up : (e : Entry) → IsSoundEntry h program e → GrowsTo h e.kept.graph e.root (λ t. SolvesWord h program e.word t e.root)
   looked_up e k = grows law h program e.kept e.root (λ t. LexicalAt h program t e.level e.word e.root) (λ t. SolvesWord h program e.word t e.root) k.is k.owes
-    (k.sound e.kept.graph (λ n. n) k.is.structure (stands h accepted.lawful e.kept.graph k.is.structure))
-    (λ t model wide says. (record { model = model; node = (let low = k.is.root_below in omega arith) }, (e.level, k.level, says)))
+      (k.sound e.kept.graph (λ n. n) k.is.structure (stands h accepted.lawful e.kept.graph k.is.structure))
+      (λ t model wide says. (record { model = model; node = (let low = k.is.root_below in omega arith) }, (e.level, k.level, says)))
 
   fins : (budget : ℕ) → (((words_in budget).finished && (empties_in budget).finished) && (above_in budget).finished) ≡ true → ((words_in budget).finished ≡ true) × ((empties_in budget).finished ≡ true) × ((above_in budget).finished ≡ true)
   fins budget fin =
@@ -202,5 +198,5 @@ lexicon_law law runs extract h program budget accepted keeps = record {
     left = budget - (declared_words extract (wordless h program) budget).visits
 
     all : (((declared_words extract (wordless h program) budget).finished && (declared_empties extract (wordless h program) left).finished) && (levels extract (wordless h program) program.lex_depth (declared_words extract (wordless h program) budget).all (left - (declared_empties extract (wordless h program) left).visits)).finished) ≡ true →
-      ((declared_words extract (wordless h program) budget).finished ≡ true) × ((declared_empties extract (wordless h program) left).finished ≡ true) × ((levels extract (wordless h program) program.lex_depth (declared_words extract (wordless h program) budget).all (left - (declared_empties extract (wordless h program) left).visits)).finished ≡ true)
+        ((declared_words extract (wordless h program) budget).finished ≡ true) × ((declared_empties extract (wordless h program) left).finished ≡ true) × ((levels extract (wordless h program) program.lex_depth (declared_words extract (wordless h program) budget).all (left - (declared_empties extract (wordless h program) left).visits)).finished ≡ true)
     all fin = fins law runs extract h program accepted keeps budget fin

@@ -1,3 +1,4 @@
+pub mod Budgets
 pub mod Levels
 pub mod Lexica
 pub mod RuleStart

@@ -1,11 +1,11 @@
 -- The start of a lexical rule on an entry: it is a state, and a structure satisfies it where the entry goes, the
 -- rule's input holds at the entry's root and its output at another node, and its goal is derived.
-use Rattle.std.proofs.Common.{◌≡◌, ℕ, zero, suc, ◌+◌, ◌<◌, ◌≤◌, Bool, true, false, ltb, List, [], ◌∷◌, ◌++◌, map, length, replicate, ◌⊎◌, inl, inr, refl, sym, ap, ◌∙◌, subst, arith, Option, Some, None, if◌then◌else◌}
+use Rattle.std.proofs.Common.{◌≡◌, ℕ, ◌+◌, ◌<◌, ◌≤◌, ltb, List, [], length, replicate, ◌⊎◌, inl, inr, refl, sym, ap, ◌∙◌, subst, arith, Option, Some, None, if◌then◌else◌}
 use Rattle.std.proofs.lemmas.Bool.{lt-ltb, le-ltb}
 use Rattle.std.proofs.lemmas.List.{length-replicate}
 use Rattle.ale_declared.specs.Lists.{Has}
 use Rattle.ale_hierarchy.specs.Hierarchy.{Hierarchy, IsLawful}
-use Rattle.ale_graph.specs.Structures.{Structure, IsStructure, count}
+use Rattle.ale_graph.specs.Structures.{Structure, count}
 use Rattle.ale_graph.specs.Facts.{Fits, Holds}
 use Rattle.ale_graph.specs.Morphisms.{IsMorphismAside}
 use Rattle.ale_graph.proofs.Lists.{has_map}
@@ -17,7 +17,7 @@ use Rattle.ale_logic.specs.Derivations.{Derivable}
 use Rattle.ale_logic.specs.Words.{Entry, IsEntry, Grammar}
 use Rattle.ale_logic.specs.States.{holds, on, State, doing, grown}
 use Rattle.ale_logic.specs.GoalKids.{doing_goal}
-use Rattle.ale_logic.specs.Putting.{graph_facts, putting}
+use Rattle.ale_logic.specs.Putting.{graph_facts, moved, putting}
 use Rattle.ale_logic.specs.Starts.{nothing, start_lex}
 use Rattle.ale_logic.specs.StartLaws.{IsQuietStart}
 use Rattle.ale_logic.specs.WellFormed.{ArePlainItems}
@@ -60,7 +60,7 @@ module _ (h : Hierarchy) (rule : LexicalRule) (x : Entry) where
     facts_fit : Fits h (graph_facts 0 x.kept.graph) (output + 1)
     facts_fit = graph_fits h law x.kept.graph is.structure 0 (output + 1) (omega arith)
 
-    imposed_inside : (n k : ℕ) → Has (map (λ (p : ℕ × ℕ). (0 + p.0, p.1)) x.kept.imposed) (n, k) → n < output + 1
+    imposed_inside : (n k : ℕ) → Has (moved 0 x.kept.imposed) (n, k) → n < output + 1
     imposed_inside n k has =
         let r = has_map (λ (p : ℕ × ℕ). (0 + p.0, p.1)) x.kept.imposed (n, k) has in
         let low = is.imposed_below r.0.0 r.0.1 r.1 in
@@ -118,10 +118,10 @@ module _ (h : Hierarchy) (rule : LexicalRule) (x : Entry) where
       go None plain = (tt, (tt, tt))
       go (Some g) plain = (tt, (tt, (plain, tt)))
 
-  pub rule_imposed : (start_lex rule x).imposed ≡ map (λ (p : ℕ × ℕ). (0 + p.0, p.1)) x.kept.imposed
+  pub rule_imposed : (start_lex rule x).imposed ≡ moved 0 x.kept.imposed
   rule_imposed = go rule.goal
     where
-      go : (o : Option Goal) → (start_of rule x o).imposed ≡ map (λ (p : ℕ × ℕ). (0 + p.0, p.1)) x.kept.imposed
+      go : (o : Option Goal) → (start_of rule x o).imposed ≡ moved 0 x.kept.imposed
       go None = refl
       go (Some g) = refl
 
@@ -145,7 +145,6 @@ module _ (h : Hierarchy) (rule : LexicalRule) (x : Entry) where
       go : (o : Option Goal) → (start_of rule x o).next ≡ output + 1
       go None = refl
       go (Some g) = refl
-
 
 -- the entry goes there, and the rule fits
 pub record FitsThere (h : Hierarchy) (program : Program) (rule : LexicalRule) (x : Entry) (s : Structure) (node assign : ℕ → ℕ) : Type 0 where
@@ -198,7 +197,7 @@ module _ (gr : Grammar) (rule : LexicalRule) (x : Entry) (s : Structure) where
 
     facts_hold : Holds gr.signature s sense.node (graph_facts 0 x.kept.graph)
     facts_hold = (put_law gr.signature s sense.node 0 x.kept.graph).up is.structure.formed
-      (along_nodes gr.signature x.kept.graph s to (λ n. sense.node (0 + n)) is.structure goes (λ n less. let same : 0 + n ≡ n = omega arith in ap sense.node same ∙ first_node n less))
+        (along_nodes gr.signature x.kept.graph s to (λ n. sense.node (0 + n)) is.structure goes (λ n less. let same : 0 + n ≡ n = omega arith in ap sense.node same ∙ first_node n less))
 
     -- the state is satisfied in this sense
     pub rule_up : HoldsAt gr.signature s assign rule.input (to x.root) → HoldsAt gr.signature s assign rule.output m → Derivable gr.signature gr.program s assign (goal_of rule.goal) → Satisfies gr s sense (start_lex rule x) []

@@ -6,12 +6,12 @@ use Rattle.ale_hierarchy.specs.Hierarchy.{Hierarchy, IsLawful}
 use Rattle.ale_graph.specs.Structures.{Structure, IsStructure}
 use Rattle.ale_graph.specs.Morphisms.{IsMorphismAside}
 use Rattle.ale_graph.specs.Closure.{node_of}
-use Rattle.ale_logic.specs.Descriptions.{Description, IsAssignment, Describes, FitsDescription, HasNoChoice, parts}
+use Rattle.ale_logic.specs.Descriptions.{Description, HoldsAt, IsAssignment, FitsDescription, HasNoChoice, parts}
 use Rattle.ale_logic.specs.Goals.{Goal, FitsGoal, IsPlain}
 use Rattle.ale_logic.specs.Programs.{Program}
 use Rattle.ale_logic.specs.Fitting.{FitsProgram, IsPlainProgram}
 use Rattle.ale_logic.specs.Derivations.{Derivable}
-use Rattle.ale_logic.specs.Solutions.{SolvesDescription, SolvesGoal}
+use Rattle.ale_logic.specs.Solutions.{IsRoot, SolvesGoal}
 use Rattle.ale_logic.specs.States.{bound, State}
 use Rattle.ale_engine.specs.Engine.{Outcome, search}
 use Rattle.ale_logic.specs.Visits.{Answer, visit}
@@ -34,22 +34,39 @@ pub record SubsumesAt (h : Hierarchy) (s : Structure) (root : ℕ) (t : Structur
 abbrev pub found_from : Hierarchy → Program → ℕ → State → Outcome Answer
 found_from h program budget st = search (visit (wordless h program)) budget (st ∷ [])
 
+-- the node of each variable of the answer, and any node where it is unbound
+abbrev pub node_for : Answer → (ℕ → ℕ) → ℕ → ℕ
+node_for a free v = elim (bound a.state.envs 0 v) [ None ↦ free v | Some n ↦ node_of a.closed n ]
+
+-- the description holds at a root, where variables stand for the nodes of `assign`
+pub record SolvesUnder (h : Hierarchy) (program : Program) (d : Description) (s : Structure) (n : ℕ) (assign : ℕ → ℕ) : Type 0 where
+  pub root : IsRoot h program s n
+  pub nodes : IsAssignment s assign
+  pub holds : HoldsAt h s assign d n
+
+-- the description holds at the root of the answer's own graph, whatever node is given to a variable that is unbound
+pub record SolvesItself (h : Hierarchy) (program : Program) (d : Description) (a : Answer) : Type 0 where
+  pub root : IsRoot h program a.closed.graph (node_of a.closed 0)
+  pub solves : (free : ℕ → ℕ) → IsAssignment a.closed.graph free → SolvesUnder h program d a.closed.graph (node_of a.closed 0) (node_for a free)
+
+-- the answer subsumes the structure, root to n, and each bound variable stands there for where its node goes
+pub record SubsumesSolution (h : Hierarchy) (a : Answer) (s : Structure) (n : ℕ) (assign : ℕ → ℕ) : Type 0 where
+  pub subsumes : SubsumesAt h a.closed.graph (node_of a.closed 0) s n
+  pub is_bound : (v m : ℕ) → bound a.state.envs 0 v ≡ Some m → assign v ≡ subsumes.map (node_of a.closed m)
+
 pub record DescriptionLaw (h : Hierarchy) (program : Program) (slots : ℕ) (d : Description) (budget : ℕ) : Type 0 where
-  pub sound : (a : Answer) → Has (found_from h program budget (start slots d)).answers a → SolvesDescription h program d a.closed.graph (node_of a.closed 0)
-  pub complete : (found_from h program budget (start slots d)).finished ≡ true → (s : Structure) (n : ℕ) → SolvesDescription h program d s n →
-      (a : Answer) × Has (found_from h program budget (start slots d)).answers a × SubsumesAt h a.closed.graph (node_of a.closed 0) s n
-  -- each structure that an answer subsumes is as described
-  pub subsumed : (a : Answer) → Has (found_from h program budget (start slots d)).answers a → (s : Structure) (n : ℕ) → IsStructure h s → SubsumesAt h a.closed.graph (node_of a.closed 0) s n → Describes h s d n
+  pub sound : (a : Answer) → Has (found_from h program budget (start slots d)).answers a → SolvesItself h program d a
+  pub complete : (found_from h program budget (start slots d)).finished ≡ true → (s : Structure) (n : ℕ) (assign : ℕ → ℕ) → SolvesUnder h program d s n assign →
+      (a : Answer) × Has (found_from h program budget (start slots d)).answers a × SubsumesSolution h a s n assign
+  -- each structure that an answer subsumes is as described, whatever node an unbound variable stands for
+  pub subsumed : (a : Answer) → Has (found_from h program budget (start slots d)).answers a → (s : Structure) (n : ℕ) (assign : ℕ → ℕ) → IsStructure h s → IsAssignment s assign →
+      SubsumesSolution h a s n assign → HoldsAt h s assign d n
 
 -- without disjunction and constraints two visits for each part, and two to spare, are enough
 abbrev pub EnoughLaw : Type 0
 EnoughLaw =
     (h : Hierarchy) (program : Program) (slots : ℕ) (d : Description) (budget : ℕ) → IsAccepted h program → FitsDescription h slots d → HasNoChoice d → program.constraints ≡ [] →
     2 * parts d + 2 ≤ budget → (found_from h program budget (start slots d)).finished ≡ true
-
--- the node of each variable of the answer, and any node where it is unbound
-abbrev pub node_for : Answer → (ℕ → ℕ) → ℕ → ℕ
-node_for a free v = elim (bound a.state.envs 0 v) [ None ↦ free v | Some n ↦ node_of a.closed n ]
 
 -- the answer subsumes the solution, and each bound variable stands there for where its node goes
 pub record SubsumesGoal (h : Hierarchy) (a : Answer) (s : Structure) (assign : ℕ → ℕ) : Type 0 where

@@ -11,7 +11,7 @@ use Rattle.ale_logic.specs.Goals.{Goal, FitsGoal, IsPlain}
 use Rattle.ale_logic.specs.Programs.{Program}
 use Rattle.ale_logic.specs.Derivations.{Derivable}
 use Rattle.ale_logic.specs.Models.{IsModel}
-use Rattle.ale_logic.specs.Solutions.{SolvesDescription, SolvesGoal}
+use Rattle.ale_logic.specs.Solutions.{IsRoot, SolvesGoal}
 use Rattle.ale_logic.specs.States.{bound, State}
 use Rattle.ale_logic.specs.Starts.{start, start_goal}
 use Rattle.ale_logic.specs.StartLaws.{IsQuietStart}
@@ -21,7 +21,7 @@ use Rattle.ale_logic.specs.Satisfaction.{Sense, Satisfies}
 use Rattle.ale_logic.specs.WellFormed.{ArePlainItems}
 use Rattle.ale_logic.specs.Steps.{IsGrammar, IsBrought, IsInFragment}
 use Rattle.ale_logic.specs.Runs.{IsReached, FreeSense, Returns, RunLaw, RunLaws}
-use Rattle.ale_logic.specs.Answers.{IsAccepted, SubsumesAt, found_from, DescriptionLaws, node_for, SubsumesGoal, GoalLaws}
+use Rattle.ale_logic.specs.Answers.{IsAccepted, SubsumesAt, found_from, SolvesUnder, SolvesItself, SubsumesSolution, DescriptionLaws, node_for, SubsumesGoal, GoalLaws}
 use Rattle.ale_run_law.proofs.First.{none_bound, description_starts, goal_starts, stands, Came, only_state, only_inside, came_from, root_inside, free_at, all_met}
 
 module _ (runs : RunLaws) (h : Hierarchy) (program : Program) (accepted : IsAccepted h program) where
@@ -55,6 +55,17 @@ module _ (runs : RunLaws) (h : Hierarchy) (program : Program) (accepted : IsAcce
         let r = returned a has a.closed.graph (λ n. n) c.is.structure (stands h accepted.lawful a.closed.graph c.is.structure) free in
         c.is.model (all_met (wordless h program) none_brought a.closed.graph st a (λ n. n) free r (λ n k given. absurd (subst (λ ps. Has ps (n, k)) none given)))
 
+  -- the node of each variable is one of the answer's graph
+  own_nodes : (st : State) (a : Answer) → Came (wordless h program) st a → (free : ℕ → ℕ) → IsAssignment a.closed.graph free → IsAssignment a.closed.graph (node_for a free)
+  own_nodes st a c free nodes v = go (bound a.state.envs 0 v) refl
+    where
+      go : (o : Option ℕ) → bound a.state.envs 0 v ≡ o → elim o [ None ↦ free v | Some n ↦ node_of a.closed n ] < count a.closed.graph
+      go None b = nodes v
+      go (Some n) b =
+          let low = c.is.is.below 0 v n b in
+          let longer = c.is.longer in
+          c.is.nodes n (omega arith)
+
   module _ (slots : ℕ) (d : Description) (budget : ℕ) (fit : FitsDescription h slots d) where
     starts : IsQuietStart h (start slots d)
     starts = description_starts h slots d fit
@@ -68,47 +79,61 @@ module _ (runs : RunLaws) (h : Hierarchy) (program : Program) (accepted : IsAcce
         let r = returned (start slots d) starts (tt, tt) budget a has s map str m free in
         record { assign = r.sense.var 0; nodes = r.satisfies.nodes 0; holds = subst (HoldsAt h s (r.sense.var 0) d) (r.node 0) r.satisfies.items.0 }
 
-    sound : (a : Answer) → Has (found_from h program budget (start slots d)).answers a → SolvesDescription h program d a.closed.graph (node_of a.closed 0)
-    sound a has =
-        let c = came (start slots d) starts (tt, tt) budget a has in (
-          record { model = answer_model (start slots d) starts (tt, tt) budget refl refl a has (omega arith); node = root_inside (wordless h program) (start slots d) a c 0 (omega arith) },
-          described a has a.closed.graph (λ n. n) c.is.structure (stands h accepted.lawful a.closed.graph c.is.structure),
-        )
-
-    pub complete : (found_from h program budget (start slots d)).finished ≡ true → (s : Structure) (n : ℕ) → SolvesDescription h program d s n →
-      (a : Answer) × Has (found_from h program budget (start slots d)).answers a × SubsumesAt h a.closed.graph (node_of a.closed 0) s n
-    complete fin s n (root, describes) =
+    pub complete : (found_from h program budget (start slots d)).finished ≡ true → (s : Structure) (n : ℕ) (assign : ℕ → ℕ) → SolvesUnder h program d s n assign →
+        (a : Answer) × Has (found_from h program budget (start slots d)).answers a × SubsumesSolution h a s n assign
+    complete fin s n assign solves =
         let sat : Satisfies (wordless h program) s sense (start slots d) [] = record {
-          fulfils = record { into = λ a low. root.node; holds = λ x k. absurd k };
-          nodes = λ e v. describes.nodes v;
+          fulfils = record { into = λ a low. solves.root.node; holds = λ x k. absurd k };
+          nodes = λ e v. solves.nodes v;
           is_bound = λ e v m b. absurd (none_bound slots e v m b);
           is_said = λ g ps has. absurd has;
-          items = (describes.holds, refl);
+          items = (solves.holds, refl);
         } in
-        let r = found_at (start slots d) starts (tt, tt) budget fin s root.model sense sat in
-        let next = (came (start slots d) starts (tt, tt) budget r.answer r.has).is.next in
-        (r.answer, r.has, record { map = r.map; is = r.is; root_to = r.lands 0 (omega arith) ∙ r.agrees.node 0 (omega arith) })
+        let r = found_at (start slots d) starts (tt, tt) budget fin s solves.root.model sense sat in
+        let next = (came (start slots d) starts (tt, tt) budget r.answer r.has).is.next in (
+          r.answer,
+          r.has,
+          record {
+            subsumes = record { map = r.map; is = r.is; root_to = r.lands 0 (omega arith) ∙ r.agrees.node 0 (omega arith) };
+            is_bound = λ v m b. sym (ap (λ (f : ℕ → ℕ). f v) (r.agrees.var 0 (omega arith))) ∙ r.is_bound 0 v m b;
+          },
+        )
       where
         sense : Sense
-        sense = record { node = λ k. n; var = λ e v. describes.assign v; words = λ g. [] }
+        sense = record { node = λ k. n; var = λ e v. assign v; words = λ g. [] }
 
-    subsumed : (a : Answer) → Has (found_from h program budget (start slots d)).answers a → (s : Structure) (n : ℕ) → IsStructure h s → SubsumesAt h a.closed.graph (node_of a.closed 0) s n → Describes h s d n
-    subsumed a has s n str by = subst (Describes h s d) by.root_to (described a has s by.map str by.is)
+    -- the description holds wherever the answer goes, in each assignment that goes with it
+    subsumed : (a : Answer) → Has (found_from h program budget (start slots d)).answers a → (s : Structure) (n : ℕ) (assign : ℕ → ℕ) → IsStructure h s → IsAssignment s assign → SubsumesSolution h a s n assign → HoldsAt h s assign d n
+    subsumed a has s n assign str nodes by =
+        let c = came (start slots d) starts (tt, tt) budget a has in
+        let free = free_at s a (λ e v. assign v) (λ e v. nodes v) (c.is.said starts.quiet) in
+        let r = returned (start slots d) starts (tt, tt) budget a has s by.subsumes.map str by.subsumes.is free in
+        let there : HoldsAt h s (r.sense.var 0) d n = subst (HoldsAt h s (r.sense.var 0) d) (r.node 0 ∙ by.subsumes.root_to) r.satisfies.items.0 in
+        subst (λ z. HoldsAt h s z d n) (fun_ext (λ v. same free r (λ u. refl) v (bound a.state.envs 0 v) refl)) there
+      where
+        same : (free : FreeSense s a) → (r : Returns (wordless h program) s (start slots d) a by.subsumes.map free) → ((u : ℕ) → free.node 0 u ≡ assign u) → (v : ℕ) → (o : Option ℕ) → bound a.state.envs 0 v ≡ o → r.sense.var 0 v ≡ assign v
+        same free r chosen v None b = r.unbound 0 v b ∙ chosen v
+        same free r chosen v (Some n) b = r.bound_to 0 v n b ∙ sym (by.is_bound v n b)
+
+    sound : (a : Answer) → Has (found_from h program budget (start slots d)).answers a → SolvesItself h program d a
+    sound a has =
+        let c = came (start slots d) starts (tt, tt) budget a has in
+        let root : IsRoot h program a.closed.graph (node_of a.closed 0) = record { model = answer_model (start slots d) starts (tt, tt) budget refl refl a has (omega arith); node = root_inside (wordless h program) (start slots d) a c 0 (omega arith) } in
+        record {
+          root = root;
+          solves = λ free nodes. record {
+            root = root;
+            nodes = own_nodes (start slots d) a c free nodes;
+            holds = subsumed a has a.closed.graph (node_of a.closed 0) (node_for a free) c.is.structure (own_nodes (start slots d) a c free nodes) (record {
+              subsumes = record { map = λ n. n; is = stands h accepted.lawful a.closed.graph c.is.structure; root_to = refl };
+              is_bound = λ v n b. ap (λ (o : Option ℕ). elim o [ None ↦ free v | Some m ↦ node_of a.closed m ]) b;
+            });
+          };
+        }
 
   module _ (slots : ℕ) (g : Goal) (budget : ℕ) (fit : FitsGoal h slots g) (plain : IsPlain g) where
     goal_is : IsQuietStart h (start_goal slots g)
     goal_is = goal_starts h slots g fit
-
-    node_inside : (a : Answer) → Has (found_from h program budget (start_goal slots g)).answers a → (free : ℕ → ℕ) → IsAssignment a.closed.graph free → IsAssignment a.closed.graph (node_for a free)
-    node_inside a has free nodes v = go (bound a.state.envs 0 v) refl
-      where
-        go : (o : Option ℕ) → bound a.state.envs 0 v ≡ o → elim o [ None ↦ free v | Some n ↦ node_of a.closed n ] < count a.closed.graph
-        go None b = nodes v
-        go (Some n) b =
-            let c = came (start_goal slots g) goal_is (plain, tt) budget a has in
-            let low = c.is.is.below 0 v n b in
-            let longer = c.is.longer in
-            c.is.nodes n (omega arith)
 
     -- the goal is derived wherever the answer's graph goes, in each assignment that goes with it
     derived : (a : Answer) → Has (found_from h program budget (start_goal slots g)).answers a → (s : Structure) (assign : ℕ → ℕ) → IsStructure h s → IsAssignment s assign → SubsumesGoal h a s assign → Derivable h program s assign g
@@ -128,8 +153,8 @@ module _ (runs : RunLaws) (h : Hierarchy) (program : Program) (accepted : IsAcce
         let c = came (start_goal slots g) goal_is (plain, tt) budget a has in
         record {
           model = answer_model (start_goal slots g) goal_is (plain, tt) budget refl refl a has (omega arith);
-          nodes = node_inside a has free nodes;
-          derived = derived a has a.closed.graph (node_for a free) c.is.structure (node_inside a has free nodes) (record {
+          nodes = own_nodes (start_goal slots g) a c free nodes;
+          derived = derived a has a.closed.graph (node_for a free) c.is.structure (own_nodes (start_goal slots g) a c free nodes) (record {
             map = λ n. n;
             is = stands h accepted.lawful a.closed.graph c.is.structure;
             is_bound = λ v n b. ap (λ (o : Option ℕ). elim o [ None ↦ free v | Some m ↦ node_of a.closed m ]) b;
@@ -137,7 +162,7 @@ module _ (runs : RunLaws) (h : Hierarchy) (program : Program) (accepted : IsAcce
         }
 
     complete_goal : (found_from h program budget (start_goal slots g)).finished ≡ true → (s : Structure) (assign : ℕ → ℕ) → SolvesGoal h program g s assign →
-      (a : Answer) × Has (found_from h program budget (start_goal slots g)).answers a × SubsumesGoal h a s assign
+        (a : Answer) × Has (found_from h program budget (start_goal slots g)).answers a × SubsumesGoal h a s assign
     complete_goal fin s assign solves =
         let sat : Satisfies (wordless h program) s sense (start_goal slots g) [] = record {
           fulfils = record { into = λ a low. solves.model.some_node; holds = λ x k. absurd k };

@@ -112,9 +112,9 @@ only_inside gr st is x (inr k) = absurd k
 pub came_from : (gr : Grammar) (st : State) (a : Answer) → ComesFrom gr (st ∷ []) a → Came gr st a
 came_from gr st a c = elim c.has [
   | inl e ↦ record {
-      is = subst (λ z. IsAnswer gr z a) e c.is;
-      back = λ inside s map into free. subst (λ z. Returns gr s z a map free) e (c.back (subst (IsInFragment gr) (sym e) inside) s map into free);
-    }
+    is = subst (λ z. IsAnswer gr z a) e c.is;
+    back = λ inside s map into free. subst (λ z. Returns gr s z a map free) e (c.back (subst (IsInFragment gr) (sym e) inside) s map into free);
+  }
   | inr k ↦ absurd k
 ]
 
@@ -133,11 +133,11 @@ free_at s a node inside none = record {
 
 -- what was imposed is met, where what was given is and no word was used
 pub all_met : (gr : Grammar) → ((s : Structure) (n k : ℕ) → IsBrought gr s n k → ⊥) → (s : Structure) (st : State) (a : Answer) (map : ℕ → ℕ) (free : FreeSense s a) → Returns gr s st a map free →
-  ((n k : ℕ) → Has st.imposed (n, k) → MeetsAt gr.signature gr.program s k (map (node_of a.closed n))) → (n k : ℕ) → Has a.state.imposed (n, k) → MeetsAt gr.signature gr.program s k (map (node_of a.closed n))
+    ((n k : ℕ) → Has st.imposed (n, k) → MeetsAt gr.signature gr.program s k (map (node_of a.closed n))) → (n k : ℕ) → Has a.state.imposed (n, k) → MeetsAt gr.signature gr.program s k (map (node_of a.closed n))
 all_met gr wordless s st a map free r given n k has = elim (r.accounted (n, k) has) [
   | inl first ↦ given n k first
   | inr later ↦ elim later [
-      | inl met ↦ subst (MeetsAt gr.signature gr.program s k) (r.node n) met
-      | inr brought ↦ absurd (wordless s _ k brought)
-    ]
+    | inl met ↦ subst (MeetsAt gr.signature gr.program s k) (r.node n) met
+    | inr brought ↦ absurd (wordless s _ k brought)
+  ]
 ]

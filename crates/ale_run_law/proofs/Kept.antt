@@ -79,7 +79,7 @@ module _ (runs : RunLaws) (extract : Extract) (h : Hierarchy) (program : Program
       keeps 0 a (keepable (wordless h program) (start slots d) a c.is 0 (omega arith))
 
   sound : (a : Answer) → Has (found_from h program budget (start slots d)).answers a → (s : Structure) (to : ℕ → ℕ) → IsStructure h s → IsMorphismAside h (extract 0 a).kept.graph s to →
-    HasSoundExtension h program (extract 0 a).kept s to (λ t. Describes h t d (to (extract 0 a).root))
+      HasSoundExtension h program (extract 0 a).kept s to (λ t. Describes h t d (to (extract 0 a).root))
   sound a has s to str m =
       let c = arrived a has in
       let part = part_of a has in
@@ -97,11 +97,12 @@ module _ (runs : RunLaws) (extract : Extract) (h : Hierarchy) (program : Program
       }
 
   complete : (found_from h program budget (start slots d)).finished ≡ true → (s : Structure) (n : ℕ) → SolvesDescription h program d s n →
-    (a : Answer) × Has (found_from h program budget (start slots d)).answers a × SubsumesAt h (extract 0 a).kept.graph (extract 0 a).root s n
+      (a : Answer) × Has (found_from h program budget (start slots d)).answers a × SubsumesAt h (extract 0 a).kept.graph (extract 0 a).root s n
   complete fin s n solves =
-      let r = answers.complete runs h program accepted slots d budget fit fin s n solves in
+      let r = answers.complete runs h program accepted slots d budget fit fin s n solves.1.assign (record { root = solves.0; nodes = solves.1.nodes; holds = solves.1.holds }) in
       let part = part_of r.0 r.1 in
-      (r.0, r.1, record { map = λ k. r.2.map ((extract 0 r.0).whole k); is = part.onward s r.2.map r.2.is; root_to = ap r.2.map part.root_is ∙ r.2.root_to })
+      let by = r.2.subsumes in
+      (r.0, r.1, record { map = λ k. by.map ((extract 0 r.0).whole k); is = part.onward s by.map by.is; root_to = ap by.map part.root_is ∙ by.root_to })
 
 pub kept_law : RunLaws → KeptLaws
 kept_law runs extract h program slots d budget accepted keeps fit = record {

@@ -2,7 +2,6 @@ pub mod Answers
 pub mod Enough
 pub mod First
 pub mod Kept
-pub mod LexiconBudgets
 pub mod Modelled
 pub mod Rises
 pub mod Runs

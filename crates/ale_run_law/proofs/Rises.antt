@@ -24,22 +24,22 @@ use Rattle.ale_extension_law.proofs.Stays as stays
 
 -- In a further extension, too, what was imposed is met, where what was given is met there and no word was used.
 pub all_met_on : (gr : Grammar) → ((s : Structure) (n k : ℕ) → IsBrought gr s n k → ⊥) → (s t : Structure) → Extends gr.signature s t → (st : State) (a : Answer) → IsAnswer gr st a → (map : ℕ → ℕ) → IsMorphismAside gr.signature a.closed.graph s map →
-  (free : FreeSense s a) → Returns gr s st a map free → ((n k : ℕ) → Has st.imposed (n, k) → MeetsAt gr.signature gr.program t k (map (node_of a.closed n))) → MeetsPairs gr t (λ n. map (node_of a.closed n)) a.state.imposed
+    (free : FreeSense s a) → Returns gr s st a map free → ((n k : ℕ) → Has st.imposed (n, k) → MeetsAt gr.signature gr.program t k (map (node_of a.closed n))) → MeetsPairs gr t (λ n. map (node_of a.closed n)) a.state.imposed
 all_met_on gr wordless s t ext st a is map m free r given n k has = elim (r.accounted (n, k) has) [
   | inl first ↦ given n k first
   | inr later ↦ elim later [
-      | inl met ↦ λ c at.
-          let low = is.is.imposed n k has in
-          let longer = is.longer in
-          let inside : map (node_of a.closed n) < count s = m.into (node_of a.closed n) (is.nodes n (omega arith)) in
-          (stays.stays_law gr.signature gr.program s t ext).meets c (map (node_of a.closed n)) inside (subst (MeetsConstraint gr.signature gr.program s c) (r.node n) (met c at))
-      | inr brought ↦ absurd (wordless s _ k brought)
-    ]
+    | inl met ↦ λ c at.
+        let low = is.is.imposed n k has in
+        let longer = is.longer in
+        let inside : map (node_of a.closed n) < count s = m.into (node_of a.closed n) (is.nodes n (omega arith)) in
+        (stays.stays_law gr.signature gr.program s t ext).meets c (map (node_of a.closed n)) inside (subst (MeetsConstraint gr.signature gr.program s c) (r.node n) (met c at))
+    | inr brought ↦ absurd (wordless s _ k brought)
+  ]
 ]
 
 module _ (gr : Grammar) (lawful : IsLawful gr.signature) (root : ℕ) (a : Answer) (p : Part) where
   pub rise_on : IsStructure gr.signature a.closed.graph → IsPart gr.signature gr.program root a p → IsAllImposed gr a → (s : Structure) (to : ℕ → ℕ) (r : IsReattached gr.signature a p s to) (t : Structure) → Extends gr.signature r.larger t →
-    AddedMeet gr.signature gr.program r.larger t → MeetsPairs gr t (λ n. r.map (node_of a.closed n)) a.state.imposed → IsSoundFor gr.signature gr.program p.kept s t to
+      AddedMeet gr.signature gr.program r.larger t → MeetsPairs gr t (λ n. r.map (node_of a.closed n)) a.state.imposed → IsSoundFor gr.signature gr.program p.kept s t to
   rise_on str part imposed s to r t ext added met = record {
     added = λ n k c high low at above. behind n k c high low at above (grind arith);
     images = λ n k c low at above. image n k c low at above;
@@ -70,9 +70,9 @@ module _ (gr : Grammar) (lawful : IsLawful gr.signature) (root : ℕ) (a : Answe
 
   -- an extension that adds nothing
   pub rise : IsStructure gr.signature a.closed.graph → IsPart gr.signature gr.program root a p → IsAllImposed gr a → (s : Structure) (to : ℕ → ℕ) (r : IsReattached gr.signature a p s to) →
-    MeetsPairs gr r.larger (λ n. r.map (node_of a.closed n)) a.state.imposed → IsSoundFor gr.signature gr.program p.kept s r.larger to
+      MeetsPairs gr r.larger (λ n. r.map (node_of a.closed n)) a.state.imposed → IsSoundFor gr.signature gr.program p.kept s r.larger to
   rise str part imposed s to r met = rise_on str part imposed s to r r.larger (record { smaller = r.extends.larger; larger = r.extends.larger; nodes = ([], none r.larger.nodes); differ = refl; roots = refl })
-    (λ n k c high low at above. absurd (omega arith)) met
+      (λ n k c high low at above. absurd (omega arith)) met
     where
       none : (xs : List Node) → xs ≡ xs ++ []
       none xs = sym (append-nil xs)

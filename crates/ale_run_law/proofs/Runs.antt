@@ -142,7 +142,7 @@ module _ (steps : StepLaws) (logic : LogicLaws) (gr : Grammar) (grammar : IsGram
   kid_inside st kid waiting is e inside = record { program = inside.program; items = (inner st waiting is inside).plain kid e }
 
   kid_returns : (st kid : State) (waiting : ℕ) → IsState gr.signature st → IsVisitKid gr waiting st kid → IsInFragment gr st →
-    (a : Answer) (s : Structure) (map : ℕ → ℕ) (free : FreeSense s a) → Returns gr s kid a map free → Returns gr s st a map free
+      (a : Answer) (s : Structure) (map : ℕ → ℕ) (free : FreeSense s a) → Returns gr s kid a map free → Returns gr s st a map free
   kid_returns st kid waiting is e inside a s map free r =
       let down = (inner st waiting is inside).down kid e s r.sense a.state.rest r.satisfies in
       record {
@@ -200,11 +200,11 @@ module _ (steps : StepLaws) (logic : LogicLaws) (gr : Grammar) (grammar : IsGram
               back = λ inside s map into free. kid_returns st c.state (length waiting) is kid inside a s map free (c.back (kid_inside st c.state (length waiting) is kid inside) s map into free);
             }
         | inr there ↦ record {
-            state = c.state;
-            has = inr (last_has n waiting c.state there);
-            is = c.is;
-            back = c.back;
-          }
+          state = c.state;
+          has = inr (last_has n waiting c.state there);
+          is = c.is;
+          back = c.back;
+        }
       ]
 
       later_one : ComesFrom gr waiting a → ComesFrom gr (st ∷ waiting) a
@@ -291,14 +291,14 @@ module _ (steps : StepLaws) (logic : LogicLaws) (gr : Grammar) (grammar : IsGram
         ]
 
         go : Later → (v : Visit State Answer) → v ≡ visit gr (length waiting) st → is_nothing (waiting_after (visit gr) left (moved waiting v).waiting) ≡ true →
-          IsReached gr s y x remain ((moved waiting v).found ++ answers_in (visit gr) left (moved waiting v).waiting)
+            IsReached gr s y x remain ((moved waiting v).found ++ answers_in (visit gr) left (moved waiting v).waiting)
         go later (answers b) e fin = elim has [
           | inl same ↦
               let k = law.answer b e in
               let own : IsState gr.signature b.state = subst (IsState gr.signature) (sym k.state) is in
               let equal : y ≡ b.state = same ∙ sym k.state in
               subst (λ z. IsReached gr s z x remain (b ∷ answers_in (visit gr) left waiting)) (sym equal)
-                (reaches_itself st b own k s model.structure x remain (subst (λ z. Satisfies gr s x z remain) equal sat) (b ∷ answers_in (visit gr) left waiting) (inl refl))
+              (reaches_itself st b own k s model.structure x remain (subst (λ z. Satisfies gr s x z remain) equal sat) (b ∷ answers_in (visit gr) left waiting) (inl refl))
           | inr there ↦ more_found s y x remain (b ∷ []) (answers_in (visit gr) left waiting)
               (later waiting (λ z k. states z (inr k)) (λ z k. inside z (inr k)) fin y there x sat)
         ]
@@ -307,8 +307,8 @@ module _ (steps : StepLaws) (logic : LogicLaws) (gr : Grammar) (grammar : IsGram
               let up = law.up n ks e s x remain (record { model = model; satisfies = subst (λ z. Satisfies gr s x z remain) same sat }) in
               let kid = law.kids_are_states up.state (record { stay = n; kids = ks; goes_on = e; has = up.has }) in
               subst (λ z. IsReached gr s z x remain (answers_in (visit gr) left (ks ++ last n waiting))) (sym same)
-                (kid_reached s st up.state x up.sense remain (answers_in (visit gr) left (ks ++ last n waiting)) kid up.agrees
-                  (later (ks ++ last n waiting) (kids n ks e) (after_visit n ks e) fin up.state (has_left ks (last n waiting) up.state up.has) up.sense up.satisfies))
+              (kid_reached s st up.state x up.sense remain (answers_in (visit gr) left (ks ++ last n waiting)) kid up.agrees
+              (later (ks ++ last n waiting) (kids n ks e) (after_visit n ks e) fin up.state (has_left ks (last n waiting) up.state up.has) up.sense up.satisfies))
           | inr there ↦
               let all : last n waiting ≡ waiting = last_all n waiting ((inner st (length waiting) is (inside st (inl refl))).all_stay n ks e) in
               later (ks ++ last n waiting) (kids n ks e) (after_visit n ks e) fin y (has_right ks (last n waiting) y (subst (λ zs. Has zs y) (sym all) there)) x sat

@@ -1,5 +1,5 @@
 ghost use Rattle.ale_logic.specs.Answers.{DescriptionLaws, GoalLaws, EnoughLaw};
-ghost use Rattle.ale_logic.specs.LexiconLaws.{KeptLaws, LexiconBudgetLaws};
+ghost use Rattle.ale_logic.specs.LexiconLaws.{KeptLaws};
 ghost use Rattle.ale_logic.specs.ModelLaws.{ModelLaws};
 ghost use Rattle.ale_logic.specs.Runs.{RunLaws};
 
@@ -51,11 +51,4 @@ pub fn kept_law()
 /// nor the program a constraint.
 pub fn enough_law()
     ensures { EnoughLaw }
-{}
-
-/// What a budget is to the lexicon, whatever is kept of answers: it is never exceeded, and only a search that
-/// is due and has a state left to visit keeps the lexicon from its end; the visits of a finished one are just
-/// as many as it needs, and with those or more it is the same.
-pub fn lexicon_budget_law()
-    ensures { LexiconBudgetLaws }
 {}

@@ -3,6 +3,4 @@
 
 mod laws;
 
-pub use laws::{
-    description_law, enough_law, goal_law, kept_law, lexicon_budget_law, model_law, run_law,
-};
+pub use laws::{description_law, enough_law, goal_law, kept_law, model_law, run_law};

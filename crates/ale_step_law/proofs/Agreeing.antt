@@ -1,20 +1,19 @@
 -- What is satisfied in one sense is satisfied in each that agrees with it on the state.
-use Rattle.std.proofs.Common.{◌≡◌, ℕ, ◌+◌, ◌<◌, ◌≤◌, List, [], ◌∷◌, ◌++◌, length, map, ◌⊎◌, inl, inr, refl, sym, ap, ◌∙◌, subst, arith, Option, Some, None}
-use Rattle.ale_declared.specs.Lists.{Has}
+use Rattle.std.proofs.Common.{◌≡◌, ℕ, ◌<◌, List, [], ◌∷◌, ◌++◌, length, map, inl, inr, refl, sym, ap, ◌∙◌, subst, Option, Some, None}
 use Rattle.ale_hierarchy.specs.Hierarchy.{Above}
 use Rattle.ale_graph.specs.declared.fact.Fact.{Fact}
 use Rattle.ale_graph.specs.declared.fact.Fact.TheVariants.{OfType, Value, Same, Differ}
 use Rattle.ale_graph.specs.Structures.{Structure, count, type_of, value_of}
-use Rattle.ale_graph.specs.Facts.{Fulfils, HoldsFact, FitsFact}
+use Rattle.ale_graph.specs.Facts.{HoldsFact, FitsFact}
 use Rattle.ale_logic.specs.Descriptions.{Description, LeadsTo, EndTogether, HoldsAt}
 use Rattle.ale_logic.specs.Programs.{Word, Element, member, tail}
 use Rattle.ale_logic.specs.Spelling.{spell}
 use Rattle.ale_logic.specs.ListNodes.{IsEmptyList, IsNonEmptyList}
 use Rattle.ale_logic.specs.Derivations.{Derivable, Callable}
 use Rattle.ale_logic.specs.Words.{Grammar, HasEntry, HasEmpty}
-use Rattle.ale_logic.specs.Headed.{Headed, HeadedList, IsPivot, IsChain}
-use Rattle.ale_logic.specs.States.{Demand, holds, ends_with, leads, generates, generates_all, Target, Piece, word, phrase, Item, on, take, derive, called, cuts, stop, split, pivot, connect, bound, State}
-use Rattle.ale_logic.specs.Satisfaction.{Sense, HoldsEnd, HoldsDemand, IsConnected, HasPivot, HoldsItem, HoldItems, IsBound, IsSaid, Satisfies, Agrees}
+use Rattle.ale_logic.specs.Headed.{Headed, HeadedList, IsChain}
+use Rattle.ale_logic.specs.States.{Demand, holds, ends_with, leads, generates, generates_all, Target, Piece, word, phrase, Item, on, take, derive, called, cuts, stop, split, pivot, connect, State}
+use Rattle.ale_logic.specs.Satisfaction.{Sense, HoldsEnd, HoldsDemand, IsConnected, HasPivot, HoldsItem, HoldItems, Satisfies, Agrees}
 use Rattle.ale_logic.specs.WellFormed.{Scope, scope_of, FitsEnd, FitsDemand, AreBelow, FitPieces, FitsTarget, FitsItem, FitItems, IsState}
 use Rattle.ale_step_law.proofs.EnvLists.{bound_inside}
 
@@ -60,7 +59,7 @@ module _ (gr : Grammar) (s : Structure) (c : Scope) (y x : Sense) (same : AgreeO
     steps = k.steps;
     few = k.few;
     chain = subst (λ z. IsChain gr.signature gr.program s (HasEntry gr s) (HasEmpty gr s) p us z (y.words t.phrase) k.steps) (sym (same.node t.node fit.0))
-      (subst (λ z. IsChain gr.signature gr.program s (HasEntry gr s) (HasEmpty gr s) p us (x.node t.node) z k.steps) (sym (same.words t.phrase fit.1)) k.chain);
+        (subst (λ z. IsChain gr.signature gr.program s (HasEntry gr s) (HasEmpty gr s) p us (x.node t.node) z k.steps) (sym (same.words t.phrase fit.1)) k.chain);
   }
 
   pivot_agrees : (sem : ℕ) (t : Target) → FitsTarget c t → HasPivot gr s x sem t → HasPivot gr s y sem t
@@ -77,7 +76,7 @@ module _ (gr : Grammar) (s : Structure) (c : Scope) (y x : Sense) (same : AgreeO
   item_agrees (pivot sem t) fit p = subst (λ z. HasPivot gr s y z t) (sym (same.node sem fit.0)) (pivot_agrees (x.node sem) t fit.1 p)
   item_agrees (connect q us t) fit p =
       subst (λ z. IsConnected gr s y z (spell y.words us) t) (sym (same.node q fit.0))
-        (subst (λ z. IsConnected gr s y (x.node q) z t) (sym (spell_agrees t.phrase us fit.2)) (connected_agrees (x.node q) (spell x.words us) t fit.1 p))
+      (subst (λ z. IsConnected gr s y (x.node q) z t) (sym (spell_agrees t.phrase us fit.2)) (connected_agrees (x.node q) (spell x.words us) t fit.1 p))
 
   items_agree : (is : List Item) → FitItems gr.signature c is → (rest remain : List Element) → HoldItems gr s x is rest remain → HoldItems gr s y is rest remain
   items_agree [] fit rest remain p = p

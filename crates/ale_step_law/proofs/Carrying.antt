@@ -1,22 +1,20 @@
 -- What satisfies a state that went on by a word satisfies the state, and the other way round, in the same sense or, where
 -- something is new, in one that goes on.
-use Rattle.std.proofs.Common.{◌≡◌, ℕ, ◌+◌, ◌-◌, ◌<◌, ◌≤◌, Bool, true, false, cond, eqb, List, [], ◌∷◌, ◌++◌, length, ◌⊎◌, inl, inr, refl, sym, ap, ◌∙◌, subst, arith, replicate, Option, Some, None}
-use Rattle.ale_declared.specs.Lists.{Has}
+use Rattle.std.proofs.Common.{◌≡◌, ℕ, ◌+◌, ◌-◌, ◌<◌, ◌≤◌, Bool, true, false, cond, eqb, List, [], ◌∷◌, ◌++◌, length, ◌⊎◌, inl, inr, refl, sym, subst, arith, replicate, None}
 use Rattle.ale_graph.specs.declared.fact.Fact.{Fact}
-use Rattle.ale_graph.specs.declared.closed.Closed.{Closed}
 use Rattle.ale_graph.specs.Structures.{Structure, count}
-use Rattle.ale_graph.specs.Facts.{HoldsFact, Fulfils}
-use Rattle.ale_graph.proofs.Lists.{has_left, has_right, has_either}
+use Rattle.ale_graph.specs.Facts.{HoldsFact}
+use Rattle.ale_graph.proofs.Lists.{has_left, has_right}
 use Rattle.ale_logic.specs.Descriptions.{IsAssignment}
-use Rattle.ale_logic.specs.Programs.{Word, Element, member, tail}
+use Rattle.ale_logic.specs.Programs.{Word, Element}
 use Rattle.ale_logic.specs.Spelling.{spell}
 use Rattle.ale_logic.specs.Words.{Grammar}
 use Rattle.ale_logic.specs.States.{Piece, Item, on, take, derive, called, cuts, stop, split, pivot, connect, env_at, bound, State, told, doing, doing_all, grown, with_env, bind, imposing, with_phrases, say, chosen}
 use Rattle.ale_logic.specs.Satisfaction.{Sense, HoldsItem, HoldItems, Satisfies, Agrees}
 use Rattle.ale_logic.specs.WellFormed.{Each, IsState}
-use Rattle.ale_step_law.proofs.EnvLists.{bind_same, bind_before, bind_cases, bound_old, bound_back, bound_inside}
+use Rattle.ale_step_law.proofs.EnvLists.{bind_same, bind_before, bind_cases, bound_old, bound_back}
 use Rattle.ale_step_law.proofs.Growing.{one_more}
-use Rattle.ale_step_law.proofs.Senses.{shift, shift_old, shift_new, with_nodes, with_words, with_assignment, var_old, var_new}
+use Rattle.ale_step_law.proofs.Senses.{shift, shift_old, shift_new, with_nodes, with_words, with_assignment, var_old}
 use Rattle.ale_step_law.proofs.Agreeing.{sat_agrees}
 
 -- an item whose meaning does not bear on the elements that remain
@@ -64,13 +62,16 @@ module _ (gr : Grammar) (s : Structure) (remain : List Element) where
 
   -- downwards
   pub told_down : (x : Sense) (f : Fact) (st : State) → Satisfies gr s x (told f st) remain → HoldsFact gr.signature s x.node f × Satisfies gr s x st remain
-  told_down x f st p = (p.fulfils.holds f (has_right st.facts (f ∷ []) f (inl refl)), record {
-    fulfils = record { into = p.fulfils.into; holds = λ y q. p.fulfils.holds y (has_left st.facts (f ∷ []) y q) };
-    nodes = p.nodes;
-    is_bound = p.is_bound;
-    is_said = p.is_said;
-    items = p.items;
-  })
+  told_down x f st p = (
+    p.fulfils.holds f (has_right st.facts (f ∷ []) f (inl refl)),
+    record {
+      fulfils = record { into = p.fulfils.into; holds = λ y q. p.fulfils.holds y (has_left st.facts (f ∷ []) y q) };
+      nodes = p.nodes;
+      is_bound = p.is_bound;
+      is_said = p.is_said;
+      items = p.items;
+    },
+  )
 
   pub doing_down : (x : Sense) (i : Item) (st : State) → IsWhole i → Satisfies gr s x (doing i st) remain → HoldsItem gr s x i × Satisfies gr s x st remain
   doing_down x i st w p =
@@ -103,13 +104,16 @@ module _ (gr : Grammar) (s : Structure) (remain : List Element) where
   }
 
   pub bind_down : (x : Sense) (e v n : ℕ) (st : State) → e < length st.envs → v < length (env_at st.envs e) → bound st.envs e v ≡ None → Satisfies gr s x (bind e v n st) remain → (x.var e v ≡ x.node n) × Satisfies gr s x st remain
-  bind_down x e v n st low inside free p = (p.is_bound e v n (bind_same st.envs e v n low inside), record {
-    fulfils = p.fulfils;
-    nodes = p.nodes;
-    is_bound = λ d w m b. p.is_bound d w m (bind_before st.envs e v n d w m low free b);
-    is_said = p.is_said;
-    items = p.items;
-  })
+  bind_down x e v n st low inside free p = (
+    p.is_bound e v n (bind_same st.envs e v n low inside),
+    record {
+      fulfils = p.fulfils;
+      nodes = p.nodes;
+      is_bound = λ d w m b. p.is_bound d w m (bind_before st.envs e v n d w m low free b);
+      is_said = p.is_said;
+      items = p.items;
+    },
+  )
 
   pub imposing_down : (x : Sense) (n k : ℕ) (st : State) → Satisfies gr s x (imposing n k st) remain → Satisfies gr s x st remain
   imposing_down x n k st p = record { fulfils = p.fulfils; nodes = p.nodes; is_bound = p.is_bound; is_said = p.is_said; items = p.items }
@@ -121,13 +125,16 @@ module _ (gr : Grammar) (s : Structure) (remain : List Element) where
   chosen_down x k st p = record { fulfils = p.fulfils; nodes = p.nodes; is_bound = p.is_bound; is_said = p.is_said; items = p.items }
 
   pub say_down : (x : Sense) (g : ℕ) (us : List Piece) (st : State) → Satisfies gr s x (say g us st) remain → (x.words g ≡ spell x.words us) × Satisfies gr s x st remain
-  say_down x g us st p = (p.is_said g us (has_right st.said ((g, us) ∷ []) (g, us) (inl refl)), record {
-    fulfils = p.fulfils;
-    nodes = p.nodes;
-    is_bound = p.is_bound;
-    is_said = λ f ps q. p.is_said f ps (has_left st.said ((g, us) ∷ []) (f, ps) q);
-    items = p.items;
-  })
+  say_down x g us st p = (
+    p.is_said g us (has_right st.said ((g, us) ∷ []) (g, us) (inl refl)),
+    record {
+      fulfils = p.fulfils;
+      nodes = p.nodes;
+      is_bound = p.is_bound;
+      is_said = λ f ps q. p.is_said f ps (has_left st.said ((g, us) ∷ []) (f, ps) q);
+      items = p.items;
+    },
+  )
 
   -- upwards, in the same sense
   pub told_up : (x : Sense) (f : Fact) (st : State) → HoldsFact gr.signature s x.node f → Satisfies gr s x st remain → Satisfies gr s x (told f st) remain

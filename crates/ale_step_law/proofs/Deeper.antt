@@ -1,10 +1,10 @@
 -- What is derivable at a depth is so at each greater one; numbers that stand for nodes.
-use Rattle.std.proofs.Common.{◌≡◌, ℕ, zero, suc, ◌+◌, ◌<◌, ◌≤◌, List, [], ◌∷◌, length, map, ◌⊎◌, inl, inr, refl, ap, ◌∙◌, arith}
+use Rattle.std.proofs.Common.{◌≡◌, ℕ, zero, suc, ◌+◌, ◌≤◌, List, length, map, inl, inr, refl, ap, arith}
 use Rattle.ale_hierarchy.specs.Hierarchy.{Hierarchy}
 use Rattle.ale_graph.specs.Structures.{Structure}
 use Rattle.ale_logic.specs.Goals.{Goal, Goals, yes, cut, each, either, equal, call, unless, if_else, once, no_goal, and_goal}
 use Rattle.ale_logic.specs.Programs.{Program}
-use Rattle.ale_logic.specs.Derivations.{AreCalled, DerivableBy, EachDerivableBy, OneDerivableBy, ByClause, Calls}
+use Rattle.ale_logic.specs.Derivations.{DerivableBy, EachDerivableBy, OneDerivableBy, Calls}
 use Rattle.ale_logic.specs.GoalKids.{numbers}
 use Rattle.ale_logic.specs.WellFormed.{AreBelow}
 

@@ -1,24 +1,24 @@
 -- Downwards: what satisfies a kid of a description's or a goal's item satisfies the state with the item.
-use Rattle.std.proofs.Common.{◌≡◌, ℕ, zero, suc, ◌+◌, ◌<◌, ◌≤◌, List, [], ◌∷◌, ◌++◌, length, map, ◌⊎◌, inl, inr, refl, sym, ap, ◌∙◌, subst, arith, Option, Some, None}
+use Rattle.std.proofs.Common.{◌≡◌, ℕ, suc, ◌+◌, ◌<◌, List, [], ◌∷◌, length, map, inl, inr, refl, sym, ◌∙◌, subst, arith, Option, Some, None}
 use Rattle.ale_declared.specs.Lists.{Has}
 use Rattle.ale_hierarchy.specs.Hierarchy.{Hierarchy}
-use Rattle.ale_graph.specs.declared.fact.Fact.TheVariants.{OfType, Value, Same, Differ}
+use Rattle.ale_graph.specs.declared.fact.Fact.TheVariants.{OfType, Same, Differ}
 use Rattle.ale_graph.specs.Structures.{Structure, count, value_of}
-use Rattle.ale_logic.specs.Descriptions.{Description, Descriptions, slot, all, any, differs, none, more, how_many, LeadsTo, EndTogether, HoldsAt, AllHoldAt}
+use Rattle.ale_logic.specs.Descriptions.{Description, Descriptions, slot, all, any, differs, none, more, how_many, LeadsTo, EndTogether, AllHoldAt}
 use Rattle.ale_logic.specs.Goals.{Goal, Goals, yes, cut, each, either, equal, call, unless, if_else, once, no_goal, and_goal, IsPlain}
-use Rattle.ale_logic.specs.Programs.{Element, member, tail, Clause, ListTypes, clauses_of}
+use Rattle.ale_logic.specs.Programs.{Element, Clause, ListTypes, clauses_of}
 use Rattle.ale_logic.specs.ListNodes.{IsEmptyListOf, IsNonEmptyListOf}
-use Rattle.ale_logic.specs.Derivations.{HoldEach, AreCalled, EachDerivableBy, ByClause, Calls, Derivable}
+use Rattle.ale_logic.specs.Derivations.{HoldEach, EachDerivableBy, Calls}
 use Rattle.ale_logic.specs.Words.{Grammar}
-use Rattle.ale_logic.specs.States.{Demand, holds, ends_with, leads, Item, on, take, derive, called, split, bound, env_at, State, told, doing, doing_all, grown, with_env, bind, remaining}
+use Rattle.ale_logic.specs.States.{Demand, holds, ends_with, leads, Item, on, take, derive, called, split, bound, env_at, State, told, doing, doing_all, grown, with_env, remaining}
 use Rattle.ale_logic.specs.DescriptionKids.{stepping, leading, equating_paths, binding, items_at, alternatives, differing, taken}
 use Rattle.ale_logic.specs.GoalKids.{numbers, items_each, goals, goal_alternatives, equating, calling, goal_kids, by_clause, clause_kids}
 use Rattle.ale_logic.specs.GenerationKids.{ending, split_kids}
-use Rattle.ale_logic.specs.Satisfaction.{Sense, HoldsEnd, HoldsDemand, HoldsItem, HoldItems, Satisfies}
+use Rattle.ale_logic.specs.Satisfaction.{Sense, HoldsEnd, HoldsItem, Satisfies}
 use Rattle.ale_logic.specs.WellFormed.{AreBelow, Each}
 use Rattle.ale_logic.specs.Steps.{SatisfiesBefore}
 use Rattle.ale_step_law.proofs.Carrying.{IsWhole, told_down, doing_down, doing_all_down, grown_down, env_down, bind_down, doing_up}
-use Rattle.ale_step_law.proofs.Every.{Every, every_none, every_more, every_one, every_both}
+use Rattle.ale_step_law.proofs.Every.{Every, every_none, every_more, every_one}
 use Rattle.ale_step_law.proofs.Deeper.{derivable_more, each_more, calls_deeper, numbers_below, length_numbers}
 
 pub whole_at : (e n : ℕ) (ds : Descriptions) → Each IsWhole (items_at e n ds)
@@ -96,8 +96,8 @@ module _ (gr : Grammar) (s : Structure) (x : Sense) (remain : List Element) (st 
   alternatives_back e n none = every_none (IsBack (on n (holds e (any none))))
   alternatives_back e n (more d ds) =
       every_more (IsBack (on n (holds e (any (more d ds))))) (doing (on n (holds e d)) st) (alternatives e n ds st)
-        (λ sat. let r = doing_down gr s remain x (on n (holds e d)) st tt sat in back (on n (holds e (any (more d ds)))) tt (inl r.0) r.1)
-        (λ kid has sat. later kid (alternatives_back e n ds kid has sat))
+      (λ sat. let r = doing_down gr s remain x (on n (holds e d)) st tt sat in back (on n (holds e (any (more d ds)))) tt (inl r.0) r.1)
+      (λ kid has sat. later kid (alternatives_back e n ds kid has sat))
     where
       later : (kid : State) → SatisfiesBefore gr s x (doing (on n (holds e (any ds))) st) remain kid.imposed → SatisfiesBefore gr s x (doing (on n (holds e (any (more d ds)))) st) remain kid.imposed
       later kid r =
@@ -114,7 +114,7 @@ module _ (gr : Grammar) (s : Structure) (x : Sense) (remain : List Element) (st 
   taken_back n f d None value = every_none (IsBack (take n f d))
   taken_back n f d (Some m) value =
       every_one (IsBack (take n f d)) (doing (on m d) st)
-        (λ sat. let r = doing_down gr s remain x (on m d) st tt sat in back (take n f d) tt (x.node m, value m refl r.1, r.0) r.1)
+      (λ sat. let r = doing_down gr s remain x (on m d) st tt sat in back (take n f d) tt (x.node m, value m refl r.1, r.0) r.1)
 
   pub all_back : (e n : ℕ) (ds : Descriptions) → IsBack (on n (holds e (all ds))) (doing_all (items_at e n ds) st)
   all_back e n ds sat =
@@ -132,17 +132,20 @@ module _ (gr : Grammar) (s : Structure) (x : Sense) (remain : List Element) (st 
   goals_down e c (and_goal g gs) p =
       let r = goals_down e c gs p.1 in
       let a : ℕ = p.0.0 in
-      let b : ℕ = r.0 in
-      (a + b,
-        (derivable_more gr.signature s (Calls gr.signature gr.program s a) (Calls gr.signature gr.program s (a + b)) (calls_deeper gr.signature gr.program s (a + b) a (omega arith)) (x.var e) g p.0.1,
-          each_more gr.signature s (Calls gr.signature gr.program s b) (Calls gr.signature gr.program s (a + b)) (calls_deeper gr.signature gr.program s (a + b) b (omega arith)) (x.var e) gs r.1))
+      let b : ℕ = r.0 in (
+        a + b,
+        (
+          derivable_more gr.signature s (Calls gr.signature gr.program s a) (Calls gr.signature gr.program s (a + b)) (calls_deeper gr.signature gr.program s (a + b) a (omega arith)) (x.var e) g p.0.1,
+          each_more gr.signature s (Calls gr.signature gr.program s b) (Calls gr.signature gr.program s (a + b)) (calls_deeper gr.signature gr.program s (a + b) b (omega arith)) (x.var e) gs r.1,
+        ),
+      )
 
   goal_alternatives_back : (e c : ℕ) (gs : Goals) → Every (IsBack (derive e c (either gs))) (goal_alternatives e c gs st)
   goal_alternatives_back e c no_goal = every_none (IsBack (derive e c (either no_goal)))
   goal_alternatives_back e c (and_goal g gs) =
       every_more (IsBack (derive e c (either (and_goal g gs)))) (doing (derive e c g) st) (goal_alternatives e c gs st)
-        (λ sat. let r = doing_down gr s remain x (derive e c g) st tt sat in back (derive e c (either (and_goal g gs))) tt (r.0.0, inl r.0.1) r.1)
-        (λ kid has sat. later kid (goal_alternatives_back e c gs kid has sat))
+      (λ sat. let r = doing_down gr s remain x (derive e c g) st tt sat in back (derive e c (either (and_goal g gs))) tt (r.0.0, inl r.0.1) r.1)
+      (λ kid has sat. later kid (goal_alternatives_back e c gs kid has sat))
     where
       later : (kid : State) → SatisfiesBefore gr s x (doing (derive e c (either gs)) st) remain kid.imposed → SatisfiesBefore gr s x (doing (derive e c (either (and_goal g gs))) st) remain kid.imposed
       later kid r =
@@ -161,21 +164,23 @@ module _ (gr : Grammar) (s : Structure) (x : Sense) (remain : List Element) (st 
       let ns : List ℕ = numbers st.next k in
       let r = doing_all_down gr s remain x (items_each e ds ns) (doing (called p ns) (grown k st)) (whole_each e ds ns) sat in
       let q = doing_down gr s remain x (called p ns) (grown k st) tt r.1 in
-      back (derive e c (call p ds)) tt
-        (q.0.0, record {
+      back (derive e c (call p ds)) tt (
+        q.0.0,
+        record {
           nodes = map x.node ns;
           many = length_numbers x.node st.next k;
           hold = each_down (st.next + k) e ds ns q.1.fulfils.into (numbers_below st.next k (st.next + k) (omega arith)) r.0;
           called = q.0.1;
-        })
-        (grown_down gr s remain x k st q.1)
+        },
+      )
+      (grown_down gr s remain x k st q.1)
 
   pub goal_back : (waiting e c : ℕ) (g : Goal) → IsPlain g → Every (IsBack (derive e c g)) (goal_kids waiting e c g st)
   goal_back waiting e c yes w = every_one (IsBack (derive e c yes)) st (λ sat. back (derive e c yes) tt (0, tt) sat)
   goal_back waiting e c cut w = absurd w
   goal_back waiting e c (each gs) w =
       every_one (IsBack (derive e c (each gs))) (doing_all (goals e c gs) st)
-        (λ sat. let r = doing_all_down gr s remain x (goals e c gs) st (whole_goals e c gs) sat in back (derive e c (each gs)) tt (goals_down e c gs r.0) r.1)
+      (λ sat. let r = doing_all_down gr s remain x (goals e c gs) st (whole_goals e c gs) sat in back (derive e c (each gs)) tt (goals_down e c gs r.0) r.1)
   goal_back waiting e c (either gs) w = goal_alternatives_back e c gs
   goal_back waiting e c (equal d d') w = every_one (IsBack (derive e c (equal d d'))) (equating e d d' st) (equal_back e c d d')
   goal_back waiting e c (call p ds) w = every_one (IsBack (derive e c (call p ds))) (calling e p ds st) (call_back e c p ds)
@@ -188,23 +193,25 @@ module _ (gr : Grammar) (s : Structure) (x : Sense) (remain : List Element) (st 
       let e : ℕ = length st.envs in
       let r = doing_all_down gr s remain x (items_each e clause.args ns) (doing (derive e waiting clause.body) (with_env clause.slots st)) (whole_each e clause.args ns) sat in
       let q = doing_down gr s remain x (derive e waiting clause.body) (with_env clause.slots st) tt r.1 in
-      back (called p ns) tt
-        (suc q.0.0, record {
+      back (called p ns) tt (
+        suc q.0.0,
+        record {
           clause = clause;
           has = has;
           assign = x.var e;
           nodes = q.1.nodes e;
           args = each_down st.next e clause.args ns q.1.fulfils.into low r.0;
           body = q.0.1;
-        })
-        (env_down gr s remain x clause.slots st q.1)
+        },
+      )
+      (env_down gr s remain x clause.slots st q.1)
 
   pub clauses_back : (waiting p : ℕ) (ns : List ℕ) → AreBelow st.next ns → (clauses : List Clause) → ((c : Clause) → Has clauses c → Has (clauses_of gr.program p) c) → Every (IsBack (called p ns)) (clause_kids waiting ns clauses st)
   clauses_back waiting p ns low [] within = every_none (IsBack (called p ns))
   clauses_back waiting p ns low (c ∷ cs) within =
       every_more (IsBack (called p ns)) (by_clause waiting ns c st) (clause_kids waiting ns cs st)
-        (clause_back waiting p ns low c (within c (inl refl)))
-        (clauses_back waiting p ns low cs (λ d has. within d (inr has)))
+      (clause_back waiting p ns low c (within c (inl refl)))
+      (clauses_back waiting p ns low cs (λ d has. within d (inr has)))
 
   -- an open list
   ending_down : (end : Option (ℕ × Description)) → Satisfies gr s x (ending end st) remain → HoldsEnd gr s x end × Satisfies gr s x st remain
@@ -219,7 +226,7 @@ module _ (gr : Grammar) (s : Structure) (x : Sense) (remain : List Element) (st 
   split_back None are n end = every_none (IsBack (split n end))
   split_back (Some l) are n end =
       every_more (IsBack (split n end)) (told (OfType n l.e_list) (ending end st)) (told (OfType n l.ne_list) (remaining n st) ∷ []) ends
-        (every_one (IsBack (split n end)) (told (OfType n l.ne_list) (remaining n st)) goes_on)
+      (every_one (IsBack (split n end)) (told (OfType n l.ne_list) (remaining n st)) goes_on)
     where
       ends : IsBack (split n end) (told (OfType n l.e_list) (ending end st))
       ends sat =

@@ -1,5 +1,5 @@
 -- What holds of each state of a list, and what one of a list satisfies.
-use Rattle.std.proofs.Common.{◌≡◌, List, [], ◌∷◌, ◌++◌, ◌⊎◌, inl, inr, refl, sym, subst}
+use Rattle.std.proofs.Common.{List, [], ◌∷◌, ◌++◌, ◌⊎◌, inl, inr, refl, sym, subst}
 use Rattle.ale_declared.specs.Lists.{Has}
 use Rattle.ale_graph.specs.Structures.{Structure}
 use Rattle.ale_graph.proofs.Lists.{has_left, has_right, has_either}

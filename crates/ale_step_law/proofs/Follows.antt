@@ -1,6 +1,6 @@
 -- The kids of each item, of every program: the words of each phrase are still to be found, or were found, once; where no
 -- words are found none are in a kid; and a kid of a plain item is plain.
-use Rattle.std.proofs.Common.{◌≡◌, ℕ, zero, suc, ◌+◌, ◌<◌, ◌≤◌, Bool, true, false, eqb, ltb, cond, if◌then◌else◌, List, [], ◌∷◌, ◌++◌, length, ◌⊎◌, inl, inr, refl, sym, ap, ◌∙◌, subst, arith, Option, Some, None}
+use Rattle.std.proofs.Common.{◌≡◌, ℕ, suc, ◌+◌, ◌<◌, ◌≤◌, Bool, true, false, eqb, ltb, cond, if◌then◌else◌, List, [], ◌∷◌, ◌++◌, length, ◌⊎◌, inl, inr, refl, sym, ap, ◌∙◌, subst, arith, Option, Some, None}
 use Rattle.std.proofs.lemmas.Bool.{eqb-true, eq-eqb}
 use Rattle.std.proofs.lemmas.List.{append_assoc}
 use Rattle.ale_declared.specs.Lists.{Has, sum_over}
@@ -21,7 +21,7 @@ use Rattle.ale_logic.specs.DescriptionKids.{stepping, leading, equating_paths, b
 use Rattle.ale_logic.specs.GoalKids.{numbers, items_each, goals, goal_alternatives, equating, calling, goal_kids, by_clause, clause_kids, doing_goal, with_constraint}
 use Rattle.ale_logic.specs.GenerationKids.{daughters, element_items, element_pieces, by_rule, pivot_rule, pivot_rules, one_up, upward_rule, upward_rules, by_entry, entry_kids, empty_kids, generate_kids, pivot_kids, connect_kids, list_kids, ending, split_kids}
 use Rattle.ale_logic.specs.Visits.{kids}
-use Rattle.ale_logic.specs.WellFormed.{Scope, scope_of, FitsDemand, FitsItem, FitItems, IsState, IsPlainItem, IsWordless, IsQuietItem, Each, ArePlainItems, AreQuietItems, times_sought, times_found}
+use Rattle.ale_logic.specs.WellFormed.{Scope, scope_of, FitsDemand, FitsItem, FitItems, IsState, IsPlainItem, IsQuietItem, Each, ArePlainItems, AreQuietItems, times_sought, times_found}
 use Rattle.ale_step_law.proofs.Carrying.{each_both}
 use Rattle.ale_step_law.proofs.Every.{Every, every_none, every_more, every_one, every_both}
 
@@ -178,13 +178,13 @@ elements_plain e c n p (tail m ∷ es) plain = elements_plain e c n p es (λ y k
 module _ (gr : Grammar) (st : State) where
   -- a kid that only puts items which seek what the item sought
   puts : (i : Item) (kid : State) (items : List Item) → kid.agenda ≡ items ++ st.agenda → kid.said ≡ st.said → kid.phrases ≡ st.phrases → ((g : ℕ) → sum_over (times_sought g) items ≡ times_sought g i) →
-    (IsQuietItem i → Each IsQuietItem items) → (IsPlainProgram gr.program → IsPlainItem i → Each IsPlainItem items) → Follows gr st i kid
+      (IsQuietItem i → Each IsQuietItem items) → (IsPlainProgram gr.program → IsPlainItem i → Each IsPlainItem items) → Follows gr st i kid
   puts i kid items agenda said phrases sought quiet plain = record {
     old = λ g low.
-      let a : sum_over (times_sought g) kid.agenda ≡ sum_over (times_sought g) items + sum_over (times_sought g) st.agenda = ap (sum_over (times_sought g)) agenda ∙ sum_append (times_sought g) items st.agenda in
-      let b : sum_over (times_found g) kid.said ≡ sum_over (times_found g) st.said = ap (sum_over (times_found g)) said in
-      let c = sought g in
-      omega (arith, a, b, c);
+        let a : sum_over (times_sought g) kid.agenda ≡ sum_over (times_sought g) items + sum_over (times_sought g) st.agenda = ap (sum_over (times_sought g)) agenda ∙ sum_append (times_sought g) items st.agenda in
+        let b : sum_over (times_found g) kid.said ≡ sum_over (times_found g) st.said = ap (sum_over (times_found g)) said in
+        let c = sought g in
+        omega (arith, a, b, c);
     new = λ g far low. absurd (omega (arith, far, low, phrases));
     quiet = λ q all. (subst (Each IsQuietItem) (sym agenda) (each_both IsQuietItem items st.agenda (quiet q) all), said);
     plain = λ program p all. subst (Each IsPlainItem) (sym agenda) (each_both IsPlainItem items st.agenda (plain program p) all);
@@ -210,52 +210,52 @@ module _ (gr : Grammar) (st : State) where
   alternatives_follow i none_sought e n none = every_none (Follows gr st i)
   alternatives_follow i none_sought e n (more d ds) =
       every_more (Follows gr st i) (doing (on n (holds e d)) st) (alternatives e n ds st)
-        (puts i (doing (on n (holds e d)) st) (on n (holds e d) ∷ []) refl refl refl none_sought (λ q. (tt, tt)) (λ program p. (tt, tt)))
-        (alternatives_follow i none_sought e n ds)
+      (puts i (doing (on n (holds e d)) st) (on n (holds e d) ∷ []) refl refl refl none_sought (λ q. (tt, tt)) (λ program p. (tt, tt)))
+      (alternatives_follow i none_sought e n ds)
 
   taken_follows : (n f : ℕ) (d : Demand) (o : Option ℕ) → Every (Follows gr st (take n f d)) (taken d o st)
   taken_follows n f d None = every_none (Follows gr st (take n f d))
   taken_follows n f d (Some m) =
       every_one (Follows gr st (take n f d)) (doing (on m d) st)
-        (puts (take n f d) (doing (on m d) st) (on m d ∷ []) refl refl refl (λ g. let e = take_on n f m d g in omega (arith, e)) (λ q. (q, tt)) (λ program p. (tt, tt)))
+      (puts (take n f d) (doing (on m d) st) (on m d ∷ []) refl refl refl (λ g. let e = take_on n f m d g in omega (arith, e)) (λ q. (q, tt)) (λ program p. (tt, tt)))
 
   goal_alternatives_follow : (e c : ℕ) (all_gs gs : Goals) → (ArePlain all_gs → ArePlain gs) → Every (Follows gr st (derive e c (either all_gs))) (goal_alternatives e c gs st)
   goal_alternatives_follow e c all_gs no_goal within = every_none (Follows gr st (derive e c (either all_gs)))
   goal_alternatives_follow e c all_gs (and_goal g gs) within =
       every_more (Follows gr st (derive e c (either all_gs))) (doing (derive e c g) st) (goal_alternatives e c gs st)
-        (puts (derive e c (either all_gs)) (doing (derive e c g) st) (derive e c g ∷ []) refl refl refl (λ f. refl) (λ q. (tt, tt)) (λ program p. ((within p).0, tt)))
-        (goal_alternatives_follow e c all_gs gs (λ p. (within p).1))
+      (puts (derive e c (either all_gs)) (doing (derive e c g) st) (derive e c g ∷ []) refl refl refl (λ f. refl) (λ q. (tt, tt)) (λ program p. ((within p).0, tt)))
+      (goal_alternatives_follow e c all_gs gs (λ p. (within p).1))
 
   goal_follows : (waiting e c : ℕ) (g : Goal) → Every (Follows gr st (derive e c g)) (goal_kids waiting e c g st)
   goal_follows waiting e c yes = every_one (Follows gr st (derive e c yes)) st (puts_none (derive e c yes) st refl refl refl (λ f. refl))
   goal_follows waiting e c cut = every_one (Follows gr st (derive e c cut)) st (puts_none (derive e c cut) st refl refl refl (λ f. refl))
   goal_follows waiting e c (each gs) =
       every_one (Follows gr st (derive e c (each gs))) (doing_all (goals e c gs) st)
-        (puts (derive e c (each gs)) (doing_all (goals e c gs) st) (goals e c gs) refl refl refl (λ f. goals_sought f e c gs) (λ q. goals_quiet e c gs) (λ program p. goals_plain e c gs p))
+      (puts (derive e c (each gs)) (doing_all (goals e c gs) st) (goals e c gs) refl refl refl (λ f. goals_sought f e c gs) (λ q. goals_quiet e c gs) (λ program p. goals_plain e c gs p))
   goal_follows waiting e c (either gs) = goal_alternatives_follow e c gs gs (λ p. p)
   goal_follows waiting e c (equal d d') =
       every_one (Follows gr st (derive e c (equal d d'))) (equating e d d' st)
-        (puts (derive e c (equal d d')) (equating e d d' st) (on st.next (holds e d) ∷ on st.next (holds e d') ∷ []) refl refl refl (λ f. refl) (λ q. (tt, (tt, tt))) (λ program p. (tt, (tt, tt))))
+      (puts (derive e c (equal d d')) (equating e d d' st) (on st.next (holds e d) ∷ on st.next (holds e d') ∷ []) refl refl refl (λ f. refl) (λ q. (tt, (tt, tt))) (λ program p. (tt, (tt, tt))))
   goal_follows waiting e c (call p ds) =
       let k : ℕ = how_many ds in
       let ns : List ℕ = numbers st.next k in
       every_one (Follows gr st (derive e c (call p ds))) (calling e p ds st)
-        (puts (derive e c (call p ds)) (calling e p ds st) (items_each e ds ns ++ called p ns ∷ []) (sym (append_assoc (items_each e ds ns) (called p ns ∷ []) st.agenda)) refl refl
-          (λ f. let a = each_sought f e ds ns in let b = sum_append (times_sought f) (items_each e ds ns) (called p ns ∷ []) in omega (arith, a, b))
-          (λ q. each_both IsQuietItem (items_each e ds ns) (called p ns ∷ []) (each_quiet e ds ns).0 (tt, tt))
-          (λ program q. each_both IsPlainItem (items_each e ds ns) (called p ns ∷ []) (each_quiet e ds ns).1 (tt, tt)))
+      (puts (derive e c (call p ds)) (calling e p ds st) (items_each e ds ns ++ called p ns ∷ []) (sym (append_assoc (items_each e ds ns) (called p ns ∷ []) st.agenda)) refl refl
+      (λ f. let a = each_sought f e ds ns in let b = sum_append (times_sought f) (items_each e ds ns) (called p ns ∷ []) in omega (arith, a, b))
+      (λ q. each_both IsQuietItem (items_each e ds ns) (called p ns ∷ []) (each_quiet e ds ns).0 (tt, tt))
+      (λ program q. each_both IsPlainItem (items_each e ds ns) (called p ns ∷ []) (each_quiet e ds ns).1 (tt, tt)))
   goal_follows waiting e c (unless g) =
       every_more (Follows gr st (derive e c (unless g))) (doing_all (derive e waiting g ∷ cuts waiting ∷ stop ∷ []) st) (st ∷ [])
-        (puts (derive e c (unless g)) (doing_all (derive e waiting g ∷ cuts waiting ∷ stop ∷ []) st) (derive e waiting g ∷ cuts waiting ∷ stop ∷ []) refl refl refl (λ f. refl) (λ q. (tt, (tt, (tt, tt)))) (λ program p. absurd p))
-        (every_one (Follows gr st (derive e c (unless g))) st (puts_none (derive e c (unless g)) st refl refl refl (λ f. refl)))
+      (puts (derive e c (unless g)) (doing_all (derive e waiting g ∷ cuts waiting ∷ stop ∷ []) st) (derive e waiting g ∷ cuts waiting ∷ stop ∷ []) refl refl refl (λ f. refl) (λ q. (tt, (tt, (tt, tt)))) (λ program p. absurd p))
+      (every_one (Follows gr st (derive e c (unless g))) st (puts_none (derive e c (unless g)) st refl refl refl (λ f. refl)))
   goal_follows waiting e c (if_else g t f) =
       every_more (Follows gr st (derive e c (if_else g t f))) (doing_all (derive e waiting g ∷ cuts waiting ∷ derive e c t ∷ []) st) (doing (derive e c f) st ∷ [])
-        (puts (derive e c (if_else g t f)) (doing_all (derive e waiting g ∷ cuts waiting ∷ derive e c t ∷ []) st) (derive e waiting g ∷ cuts waiting ∷ derive e c t ∷ []) refl refl refl (λ f. refl) (λ q. (tt, (tt, (tt, tt)))) (λ program p. absurd p))
-        (every_one (Follows gr st (derive e c (if_else g t f))) (doing (derive e c f) st)
-          (puts (derive e c (if_else g t f)) (doing (derive e c f) st) (derive e c f ∷ []) refl refl refl (λ f. refl) (λ q. (tt, tt)) (λ program p. absurd p)))
+      (puts (derive e c (if_else g t f)) (doing_all (derive e waiting g ∷ cuts waiting ∷ derive e c t ∷ []) st) (derive e waiting g ∷ cuts waiting ∷ derive e c t ∷ []) refl refl refl (λ f. refl) (λ q. (tt, (tt, (tt, tt)))) (λ program p. absurd p))
+      (every_one (Follows gr st (derive e c (if_else g t f))) (doing (derive e c f) st)
+      (puts (derive e c (if_else g t f)) (doing (derive e c f) st) (derive e c f ∷ []) refl refl refl (λ f. refl) (λ q. (tt, tt)) (λ program p. absurd p)))
   goal_follows waiting e c (once g t) =
       every_one (Follows gr st (derive e c (once g t))) (doing_all (derive e waiting g ∷ cuts waiting ∷ derive e c t ∷ []) st)
-        (puts (derive e c (once g t)) (doing_all (derive e waiting g ∷ cuts waiting ∷ derive e c t ∷ []) st) (derive e waiting g ∷ cuts waiting ∷ derive e c t ∷ []) refl refl refl (λ f. refl) (λ q. (tt, (tt, (tt, tt)))) (λ program p. absurd p))
+      (puts (derive e c (once g t)) (doing_all (derive e waiting g ∷ cuts waiting ∷ derive e c t ∷ []) st) (derive e waiting g ∷ cuts waiting ∷ derive e c t ∷ []) refl refl refl (λ f. refl) (λ q. (tt, (tt, (tt, tt)))) (λ program p. absurd p))
 
   clauses_follow : (waiting p : ℕ) (ns : List ℕ) (cs : List Clause) → ((c : Clause) → Has cs c → Has (clauses_of gr.program p) c) → Every (Follows gr st (called p ns)) (clause_kids waiting ns cs st)
   clauses_follow waiting p ns [] within = every_none (Follows gr st (called p ns))
@@ -263,17 +263,17 @@ module _ (gr : Grammar) (st : State) where
       let e : ℕ = length st.envs in
       let items : List Item = items_each e c.args ns in
       every_more (Follows gr st (called p ns)) (by_clause waiting ns c st) (clause_kids waiting ns cs st)
-        (puts (called p ns) (by_clause waiting ns c st) (items ++ derive e waiting c.body ∷ []) (sym (append_assoc items (derive e waiting c.body ∷ []) st.agenda)) refl refl
-          (λ f. let a = each_sought f e c.args ns in let b = sum_append (times_sought f) items (derive e waiting c.body ∷ []) in omega (arith, a, b))
-          (λ q. each_both IsQuietItem items (derive e waiting c.body ∷ []) (each_quiet e c.args ns).0 (tt, tt))
-          (λ program q. each_both IsPlainItem items (derive e waiting c.body ∷ []) (each_quiet e c.args ns).1 (program.clauses p c (within c (inl refl)), tt)))
-        (clauses_follow waiting p ns cs (λ d k. within d (inr k)))
+      (puts (called p ns) (by_clause waiting ns c st) (items ++ derive e waiting c.body ∷ []) (sym (append_assoc items (derive e waiting c.body ∷ []) st.agenda)) refl refl
+      (λ f. let a = each_sought f e c.args ns in let b = sum_append (times_sought f) items (derive e waiting c.body ∷ []) in omega (arith, a, b))
+      (λ q. each_both IsQuietItem items (derive e waiting c.body ∷ []) (each_quiet e c.args ns).0 (tt, tt))
+      (λ program q. each_both IsPlainItem items (derive e waiting c.body ∷ []) (each_quiet e c.args ns).1 (program.clauses p c (within c (inl refl)), tt)))
+      (clauses_follow waiting p ns cs (λ d k. within d (inr k)))
 
   split_follows : (lists : Option ListTypes) (n : ℕ) (end : Option (ℕ × Description)) → Every (Follows gr st (split n end)) (split_kids lists n end st)
   split_follows None n end = every_none (Follows gr st (split n end))
   split_follows (Some l) n end =
       every_more (Follows gr st (split n end)) (told (OfType n l.e_list) (ending end st)) (told (OfType n l.ne_list) (remaining n st) ∷ []) (ends end)
-        (every_one (Follows gr st (split n end)) (told (OfType n l.ne_list) (remaining n st)) (puts_none (split n end) (told (OfType n l.ne_list) (remaining n st)) refl refl refl (λ f. refl)))
+      (every_one (Follows gr st (split n end)) (told (OfType n l.ne_list) (remaining n st)) (puts_none (split n end) (told (OfType n l.ne_list) (remaining n st)) refl refl refl (λ f. refl)))
     where
       ends : (o : Option (ℕ × Description)) → Follows gr st (split n end) (told (OfType n l.e_list) (ending o st))
       ends None = puts_none (split n end) (told (OfType n l.e_list) st) refl refl refl (λ f. refl)
@@ -291,17 +291,17 @@ module _ (gr : Grammar) (st : State) where
           puts (on 0 (holds 0 (of_type 0))) (doing (on n (holds (length st.envs) c.desc)) (imposing n k (with_env c.slots st))) (on n (holds (length st.envs) c.desc) ∷ []) refl refl refl (λ f. refl) (λ q. (tt, tt)) (λ program p. (tt, tt))
       go (Some g) plain =
           puts (on 0 (holds 0 (of_type 0))) (doing (on n (holds (length st.envs) c.desc)) (doing (derive (length st.envs) waiting g) (imposing n k (with_env c.slots st)))) (on n (holds (length st.envs) c.desc) ∷ derive (length st.envs) waiting g ∷ [])
-            refl refl refl (λ f. refl) (λ q. (tt, (tt, tt))) (λ program p. (tt, (plain program, tt)))
+          refl refl refl (λ f. refl) (λ q. (tt, (tt, tt))) (λ program p. (tt, (plain program, tt)))
 
   -- a phrase that is found to consist of pieces
   says : (i : Item) (kid : State) (g : ℕ) (us : List Piece) → kid.agenda ≡ st.agenda → kid.said ≡ st.said ++ (g, us) ∷ [] → kid.phrases ≡ st.phrases → ((f : ℕ) → times_sought f i ≡ one_if g f) → (IsQuietItem i → ⊥) → Follows gr st i kid
   says i kid g us agenda said phrases sought loud = record {
     old = λ f low.
-      let a : sum_over (times_sought f) kid.agenda ≡ sum_over (times_sought f) st.agenda = ap (sum_over (times_sought f)) agenda in
-      let b : sum_over (times_found f) kid.said ≡ sum_over (times_found f) st.said + sum_over (times_found f) ((g, us) ∷ []) = ap (sum_over (times_found f)) said ∙ sum_append (times_found f) st.said ((g, us) ∷ []) in
-      let c : times_sought f i ≡ one_if g f = sought f in
-      let d : sum_over (times_found f) ((g, us) ∷ []) ≡ one_if g f + 0 = refl in
-      omega (arith, a, b, c, d);
+        let a : sum_over (times_sought f) kid.agenda ≡ sum_over (times_sought f) st.agenda = ap (sum_over (times_sought f)) agenda in
+        let b : sum_over (times_found f) kid.said ≡ sum_over (times_found f) st.said + sum_over (times_found f) ((g, us) ∷ []) = ap (sum_over (times_found f)) said ∙ sum_append (times_found f) st.said ((g, us) ∷ []) in
+        let c : times_sought f i ≡ one_if g f = sought f in
+        let d : sum_over (times_found f) ((g, us) ∷ []) ≡ one_if g f + 0 = refl in
+        omega (arith, a, b, c, d);
     new = λ f far low. absurd (omega (arith, far, low, phrases));
     quiet = λ q all. absurd (loud q);
     plain = λ program p all. subst (Each IsPlainItem) (sym agenda) all;
@@ -314,26 +314,26 @@ module _ (gr : Grammar) (st : State) (is : IsState gr.signature st) where
   generate_follows (Some sem) n g =
       let t : Target = record { node = n; phrase = g; steps = 0 } in
       every_one (Follows gr st (on n (generates g))) (doing_all (called sem (n ∷ st.next ∷ []) ∷ pivot st.next t ∷ []) (grown 1 st))
-        (puts gr st (on n (generates g)) (doing_all (called sem (n ∷ st.next ∷ []) ∷ pivot st.next t ∷ []) (grown 1 st)) (called sem (n ∷ st.next ∷ []) ∷ pivot st.next t ∷ []) refl refl refl
-          (λ f. let a : times_sought f (on n (generates g)) ≡ one_if g f = refl in let b : times_sought f (pivot st.next t) ≡ one_if g f = refl in omega (arith, a, b))
-          (λ q. absurd q) (λ program p. (tt, (tt, tt))))
+      (puts gr st (on n (generates g)) (doing_all (called sem (n ∷ st.next ∷ []) ∷ pivot st.next t ∷ []) (grown 1 st)) (called sem (n ∷ st.next ∷ []) ∷ pivot st.next t ∷ []) refl refl refl
+      (λ f. let a : times_sought f (on n (generates g)) ≡ one_if g f = refl in let b : times_sought f (pivot st.next t) ≡ one_if g f = refl in omega (arith, a, b))
+      (λ q. absurd q) (λ program p. (tt, (tt, tt))))
 
   list_follows : (lists : Option ListTypes) (n g : ℕ) → g < st.phrases → Every (Follows gr st (on n (generates_all g))) (list_kids lists n g st)
   list_follows None n g low = every_none (Follows gr st (on n (generates_all g)))
   list_follows (Some l) n g low =
       every_more (Follows gr st (on n (generates_all g))) (told (OfType n l.e_list) (say g [] st)) (longer ∷ [])
-        (says gr st (on n (generates_all g)) (told (OfType n l.e_list) (say g [] st)) g [] refl refl refl (λ f. refl) (λ q. q))
-        (every_one (Follows gr st (on n (generates_all g))) longer
-          (record {
-            old = λ f small.
-              let a : one_if st.phrases f ≡ 0 = one_other st.phrases f (λ e. absurd (omega arith)) in
-              let b : one_if (suc st.phrases) f ≡ 0 = one_other (suc st.phrases) f (λ e. absurd (omega arith)) in
-              let c = sum_append (times_found f) st.said ((g, ps) ∷ []) in
-              omega (arith, a, b, c);
-            new = λ f far small. fresh f far small (grind arith);
-            quiet = λ q all. absurd q;
-            plain = λ program p all. (tt, (tt, all));
-          }))
+      (says gr st (on n (generates_all g)) (told (OfType n l.e_list) (say g [] st)) g [] refl refl refl (λ f. refl) (λ q. q))
+      (every_one (Follows gr st (on n (generates_all g))) longer
+      (record {
+        old = λ f small.
+            let a : one_if st.phrases f ≡ 0 = one_other st.phrases f (λ e. absurd (omega arith)) in
+            let b : one_if (suc st.phrases) f ≡ 0 = one_other (suc st.phrases) f (λ e. absurd (omega arith)) in
+            let c = sum_append (times_found f) st.said ((g, ps) ∷ []) in
+            omega (arith, a, b, c);
+        new = λ f far small. fresh f far small (grind arith);
+        quiet = λ q all. absurd q;
+        plain = λ program p all. (tt, (tt, all));
+      }))
     where
       ps : List Piece
       ps = phrase st.phrases ∷ phrase (suc st.phrases) ∷ []
@@ -362,22 +362,22 @@ module _ (gr : Grammar) (st : State) (is : IsState gr.signature st) where
 
   -- a rule seeks its daughters' phrases
   rule_follows : (i : Item) (waiting : ℕ) (before : ℕ → ℕ → List Item) (us : List Piece) (t : Target) (r : Rule) → ((f : ℕ) → times_sought f i ≡ one_if t.phrase f) → (IsQuietItem i → ⊥) → t.phrase < st.phrases → Has gr.program.rules r →
-    ((f : ℕ) → sum_over (times_sought f) (before (length st.envs) st.next) ≡ 0) → Each IsPlainItem (before (length st.envs) st.next) → Follows gr st i (by_rule waiting before us t r st)
+      ((f : ℕ) → sum_over (times_sought f) (before (length st.envs) st.next) ≡ 0) → Each IsPlainItem (before (length st.envs) st.next) → Follows gr st i (by_rule waiting before us t r st)
   rule_follows i waiting before us t r sought loud low has first plain = record {
     old = λ f small.
-      let a = elements_old f e waiting (suc st.next) st.phrases r.elements small in
-      let b = sums f in
-      let c : times_sought f i ≡ one_if t.phrase f = sought f in
-      omega (arith, a, b, c);
+        let a = elements_old f e waiting (suc st.next) st.phrases r.elements small in
+        let b = sums f in
+        let c : times_sought f i ≡ one_if t.phrase f = sought f in
+        omega (arith, a, b, c);
     new = λ f far small.
-      let a = elements_new f e waiting (suc st.next) st.phrases r.elements far small in
-      let b = sums f in
-      let c : one_if t.phrase f ≡ 0 = one_other t.phrase f (λ z. absurd (omega arith)) in
-      let p = tally_past gr.signature st f is far in
-      omega (arith, a, b, c, p.0, p.1);
+        let a = elements_new f e waiting (suc st.next) st.phrases r.elements far small in
+        let b = sums f in
+        let c : one_if t.phrase f ≡ 0 = one_other t.phrase f (λ z. absurd (omega arith)) in
+        let p = tally_past gr.signature st f is far in
+        omega (arith, a, b, c, p.0, p.1);
     quiet = λ q all. absurd (loud q);
     plain = λ program p all.
-      each_both IsPlainItem (on st.next (holds e r.mother) ∷ before e st.next) (elements ++ link ∷ st.agenda) (tt, plain)
+        each_both IsPlainItem (on st.next (holds e r.mother) ∷ before e st.next) (elements ++ link ∷ st.agenda) (tt, plain)
         (each_both IsPlainItem elements (link ∷ st.agenda) (elements_plain e waiting (suc st.next) st.phrases r.elements (program.rules r has)) (tt, all));
   }
     where
@@ -401,8 +401,8 @@ module _ (gr : Grammar) (st : State) (is : IsState gr.signature st) where
   entry_follows sem sm t pieces x =
       let p : ℕ = st.next + x.root in
       puts gr st (pivot sm t) (by_entry sem sm t pieces x st) (called sem (p ∷ sm ∷ []) ∷ connect p pieces t ∷ []) refl refl refl
-        (λ f. let a : times_sought f (pivot sm t) ≡ one_if t.phrase f = refl in let b : times_sought f (connect p pieces t) ≡ one_if t.phrase f = refl in omega (arith, a, b))
-        (λ q. absurd q) (λ program q. (tt, (tt, tt)))
+      (λ f. let a : times_sought f (pivot sm t) ≡ one_if t.phrase f = refl in let b : times_sought f (connect p pieces t) ≡ one_if t.phrase f = refl in omega (arith, a, b))
+      (λ q. absurd q) (λ program q. (tt, (tt, tt)))
 
   entries_follow : (sem sm : ℕ) (t : Target) (xs : List Entry) → Every (Follows gr st (pivot sm t)) (entry_kids sem sm t xs st)
   entries_follow sem sm t [] = every_none (Follows gr st (pivot sm t))
@@ -419,15 +419,15 @@ module _ (gr : Grammar) (st : State) (is : IsState gr.signature st) where
       go : (o : Option Description) → Every (Follows gr st (pivot sm t)) (pivot_rules waiting sem sm t rs st) → Every (Follows gr st (pivot sm t)) (pivot_rule waiting sem sm t r st o (pivot_rules waiting sem sm t rs st))
       go None later =
           every_more (Follows gr st (pivot sm t)) (by_rule waiting (λ e p. called sem (p ∷ sm ∷ []) ∷ []) [] t r st) (pivot_rules waiting sem sm t rs st)
-            (rule_follows (pivot sm t) waiting (λ e p. called sem (p ∷ sm ∷ []) ∷ []) [] t r (λ f. refl) (λ q. q) low (within r (inl refl)) (λ f. refl) (tt, tt)) later
+          (rule_follows (pivot sm t) waiting (λ e p. called sem (p ∷ sm ∷ []) ∷ []) [] t r (λ f. refl) (λ q. q) low (within r (inl refl)) (λ f. refl) (tt, tt)) later
       go (Some d) later = later
 
   pivot_follows : (waiting : ℕ) (sems : Option ℕ) (sm : ℕ) (t : Target) → t.phrase < st.phrases → Every (Follows gr st (pivot sm t)) (pivot_kids gr waiting sems sm t st)
   pivot_follows waiting None sm t low = every_none (Follows gr st (pivot sm t))
   pivot_follows waiting (Some sem) sm t low =
       every_both (Follows gr st (pivot sm t)) (entry_kids sem sm t gr.words.entries st) (empty_kids sem sm t gr.words.empties st ++ pivot_rules waiting sem sm t gr.program.rules st) (entries_follow sem sm t gr.words.entries)
-        (every_both (Follows gr st (pivot sm t)) (empty_kids sem sm t gr.words.empties st) (pivot_rules waiting sem sm t gr.program.rules st) (empties_follow sem sm t gr.words.empties)
-          (pivot_rules_follow waiting sem sm t low gr.program.rules (λ r k. k)))
+      (every_both (Follows gr st (pivot sm t)) (empty_kids sem sm t gr.words.empties st) (pivot_rules waiting sem sm t gr.program.rules st) (empties_follow sem sm t gr.words.empties)
+      (pivot_rules_follow waiting sem sm t low gr.program.rules (λ r k. k)))
 
   upward_rules_follow : (waiting p : ℕ) (us : List Piece) (t : Target) → t.phrase < st.phrases → (rs : List Rule) → ((r : Rule) → Has rs r → Has gr.program.rules r) → Every (Follows gr st (connect p us t)) (upward_rules waiting p us t rs st)
   upward_rules_follow waiting p us t low [] within = every_none (Follows gr st (connect p us t))
@@ -437,12 +437,12 @@ module _ (gr : Grammar) (st : State) (is : IsState gr.signature st) where
       go None later = later
       go (Some d) later =
           every_more (Follows gr st (connect p us t)) (by_rule waiting (λ e q. on p (holds e d) ∷ []) us (one_up t) r st) (upward_rules waiting p us t rs st)
-            (rule_follows (connect p us t) waiting (λ e q. on p (holds e d) ∷ []) us (one_up t) r (λ f. refl) (λ q. q) low (within r (inl refl)) (λ f. refl) (tt, tt)) later
+          (rule_follows (connect p us t) waiting (λ e q. on p (holds e d) ∷ []) us (one_up t) r (λ f. refl) (λ q. q) low (within r (inl refl)) (λ f. refl) (tt, tt)) later
 
   connect_follows : (waiting p : ℕ) (us : List Piece) (t : Target) → t.phrase < st.phrases → Every (Follows gr st (connect p us t)) (connect_kids gr waiting p us t st)
   connect_follows waiting p us t low =
       every_more (Follows gr st (connect p us t)) (told (Same p t.node) (say t.phrase us st)) (cond (ltb t.steps gr.program.chain_length) (upward_rules waiting p us t gr.program.rules st) [])
-        (says gr st (connect p us t) (told (Same p t.node) (say t.phrase us st)) t.phrase us refl refl refl (λ f. refl) (λ q. q)) (go (ltb t.steps gr.program.chain_length))
+      (says gr st (connect p us t) (told (Same p t.node) (say t.phrase us st)) t.phrase us refl refl refl (λ f. refl) (λ q. q)) (go (ltb t.steps gr.program.chain_length))
     where
       go : (b : Bool) → Every (Follows gr st (connect p us t)) (cond b (upward_rules waiting p us t gr.program.rules st) [])
       go true = upward_rules_follow waiting p us t low gr.program.rules (λ r k. k)
@@ -454,14 +454,14 @@ module _ (gr : Grammar) (st : State) (is : IsState gr.signature st) where
   kids_follow waiting c (on n (holds e (slot v))) fit = every_one (Follows gr st (on n (holds e (slot v)))) (binding e v n (bound st.envs e v) st) (binding_follows gr st (on n (holds e (slot v))) (λ f. refl) e v n (bound st.envs e v))
   kids_follow waiting c (on n (holds e (at f d))) fit =
       every_one (Follows gr st (on n (holds e (at f d)))) (stepping gr.signature n f (holds e d) st)
-        (puts gr st (on n (holds e (at f d))) (stepping gr.signature n f (holds e d) st) (take n f (holds e d) ∷ []) refl refl refl (λ f. refl) (λ q. (tt, tt)) (λ program p. (tt, tt)))
+      (puts gr st (on n (holds e (at f d))) (stepping gr.signature n f (holds e d) st) (take n f (holds e d) ∷ []) refl refl refl (λ f. refl) (λ q. (tt, tt)) (λ program p. (tt, tt)))
   kids_follow waiting c (on n (holds e (all ds))) fit =
       every_one (Follows gr st (on n (holds e (all ds)))) (doing_all (items_at e n ds) st)
-        (puts gr st (on n (holds e (all ds))) (doing_all (items_at e n ds) st) (items_at e n ds) refl refl refl (λ f. at_sought f e n ds) (λ q. (at_quiet e n ds).0) (λ program p. (at_quiet e n ds).1))
+      (puts gr st (on n (holds e (all ds))) (doing_all (items_at e n ds) st) (items_at e n ds) refl refl refl (λ f. at_sought f e n ds) (λ q. (at_quiet e n ds).0) (λ program p. (at_quiet e n ds).1))
   kids_follow waiting c (on n (holds e (any ds))) fit = alternatives_follow gr st (on n (holds e (any ds))) (λ f. refl) e n ds
   kids_follow waiting c (on n (holds e (differs d))) fit =
       every_one (Follows gr st (on n (holds e (differs d)))) (differing e n d st)
-        (puts gr st (on n (holds e (differs d))) (differing e n d st) (on st.next (holds e d) ∷ []) refl refl refl (λ f. refl) (λ q. (tt, tt)) (λ program p. (tt, tt)))
+      (puts gr st (on n (holds e (differs d))) (differing e n d st) (on st.next (holds e d) ∷ []) refl refl refl (λ f. refl) (λ q. (tt, tt)) (λ program p. (tt, tt)))
   kids_follow waiting c (on n (holds e (path_equation p q))) fit =
       every_one (Follows gr st (on n (holds e (path_equation p q)))) (equating_paths gr.signature n p n q st) (equating_follows gr st (on n (holds e (path_equation p q))) (λ f. refl) gr.signature n p n q)
   kids_follow waiting c (on a (ends_with p b q)) fit = every_one (Follows gr st (on a (ends_with p b q))) (equating_paths gr.signature a p b q st) (equating_follows gr st (on a (ends_with p b q)) (λ f. refl) gr.signature a p b q)

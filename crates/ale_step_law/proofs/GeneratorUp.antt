@@ -1,32 +1,31 @@
 -- Upwards, where words are found: nodes, lists, pivots from entries, empties and rules, and connections.
-use Rattle.std.proofs.Common.{◌≡◌, ℕ, zero, suc, ◌+◌, ◌-◌, ◌<◌, ◌≤◌, Bool, true, false, ltb, cond, List, [], ◌∷◌, ◌++◌, length, map, ◌⊎◌, inl, inr, refl, sym, ap, ◌∙◌, subst, arith, Option, Some, None}
+use Rattle.std.proofs.Common.{◌≡◌, ℕ, zero, suc, ◌+◌, ◌-◌, ◌<◌, ◌≤◌, true, ltb, cond, List, [], ◌∷◌, ◌++◌, length, ◌⊎◌, inl, inr, refl, sym, ap, ◌∙◌, subst, arith, Option, Some, None}
 use Rattle.std.proofs.lemmas.Bool.{lt-ltb}
 use Rattle.std.proofs.lemmas.List.{append-nil}
 use Rattle.ale_declared.specs.Lists.{Has}
-use Rattle.ale_hierarchy.specs.Hierarchy.{Hierarchy, Above}
 use Rattle.ale_graph.specs.declared.fact.Fact.TheVariants.{OfType, Same}
 use Rattle.ale_graph.specs.Structures.{Structure, count, value_of}
 use Rattle.ale_graph.proofs.Lists.{some_one, none_some}
 use Rattle.ale_logic.specs.Descriptions.{Description, HoldsAt, IsAssignment}
-use Rattle.ale_logic.specs.Programs.{Word, Element, cat, cats, derived, sem_head, member, tail, Rule, ListTypes}
+use Rattle.ale_logic.specs.Programs.{Word, Element, Rule, ListTypes}
 use Rattle.ale_logic.specs.Spelling.{spell}
-use Rattle.ale_logic.specs.ListNodes.{IsEmptyListOf, IsNonEmptyListOf, hd_of, tl_of, IsCell}
+use Rattle.ale_logic.specs.ListNodes.{IsEmptyListOf, IsNonEmptyListOf, hd_of, tl_of}
 use Rattle.ale_logic.specs.Derivations.{Derivable, Callable}
 use Rattle.ale_logic.specs.Words.{Entry, IsEntry, Grammar, HasEntry, HasEmpty, StandsAt}
-use Rattle.ale_logic.specs.Headed.{semantic_head, Means, Headed, HeadedList, IsPivot, IsChain, Spells}
+use Rattle.ale_logic.specs.Headed.{semantic_head, Headed, HeadedList, IsPivot, IsChain, Spells}
 use Rattle.ale_logic.specs.Headed.Headed.{by_pivot}
 use Rattle.ale_logic.specs.Headed.IsPivot.{word_pivot, empty_pivot, rule_pivot}
 use Rattle.ale_logic.specs.Headed.IsChain.{arrived, upward}
 use Rattle.ale_logic.specs.Headed.Spells.{spelled, spells_head, spells_cat, spells_cats, spells_goal}
 use Rattle.ale_logic.specs.Headed.HeadedList.{list_end, list_on}
-use Rattle.ale_logic.specs.States.{holds, generates, generates_all, Target, Piece, word, phrase, Item, on, take, derive, called, pivot, connect, State, told, doing, doing_all, grown, with_env, with_phrases, say}
+use Rattle.ale_logic.specs.States.{holds, generates, generates_all, Target, Piece, word, phrase, Item, on, take, called, pivot, connect, State, told, doing, doing_all, grown, with_env, with_phrases, say}
 use Rattle.ale_logic.specs.Putting.{putting}
 use Rattle.ale_logic.specs.GenerationKids.{daughters, element_items, element_pieces, by_rule, pivot_rule, pivot_rules, one_up, upward_rule, upward_rules, by_entry, entry_kids, empty_kids, generate_kids, pivot_kids, connect_kids, list_kids}
 use Rattle.ale_logic.specs.Satisfaction.{Sense, HoldsItem, Satisfies, Agrees, IsConnected, HasPivot}
 use Rattle.ale_logic.specs.WellFormed.{Each, scope_of, FitPieces, FitsTarget, IsState}
 use Rattle.ale_logic.specs.Steps.{SatisfiesOne}
 use Rattle.ale_step_law.proofs.Growing.{Goes, goes_self, goes_with_env, goes_grown}
-use Rattle.ale_step_law.proofs.Senses.{shift, shift_old, shift_new, shift_first, with_nodes, with_words, with_assignment, var_old, var_new}
+use Rattle.ale_step_law.proofs.Senses.{shift_old, shift_new, shift_first, with_nodes, with_words, with_assignment, var_old, var_new}
 use Rattle.ale_step_law.proofs.Agreeing.{agree_on, connected_agrees, spell_agrees}
 use Rattle.ale_step_law.proofs.Carrying.{IsWhole, told_up, doing_up, doing_all_up, grown_up, env_up, words_up, say_up, agrees_nodes, agrees_words}
 use Rattle.ale_step_law.proofs.PutFits.{put_up}
@@ -88,14 +87,17 @@ module _ (gr : Grammar) (s : Structure) where
         words = ahead vs r.words;
         inside = ahead_inside m (daughters es) r.nodes (headed_inside gr s m vs headed) r.inside;
         hold = λ y e c n g var node said.
-          let is : y.node n ≡ m = at_first y.node n m (node 0 (omega arith)) in
-          let us_are : y.words g ≡ vs = at_first y.words g vs (said 0 (omega arith)) in
-          (subst (HoldsAt gr.signature s (y.var e) d) (sym is) (subst (λ z. HoldsAt gr.signature s z d m) (sym var) here),
-            (subst (λ z. Headed gr.signature gr.program s (HasEntry gr s) (HasEmpty gr s) z (y.words g)) (sym is) (subst (Headed gr.signature gr.program s (HasEntry gr s) (HasEmpty gr s) m) (sym us_are) headed),
-            r.hold y e c (suc n) (suc g) var (λ i low. at_next y.node n i (r.nodes i) (node (suc i) (omega arith))) (λ i low. at_next y.words g i (r.words i) (said (suc i) (omega arith)))));
+            let is : y.node n ≡ m = at_first y.node n m (node 0 (omega arith)) in
+            let us_are : y.words g ≡ vs = at_first y.words g vs (said 0 (omega arith)) in (
+              subst (HoldsAt gr.signature s (y.var e) d) (sym is) (subst (λ z. HoldsAt gr.signature s z d m) (sym var) here),
+              (
+                subst (λ z. Headed gr.signature gr.program s (HasEntry gr s) (HasEmpty gr s) z (y.words g)) (sym is) (subst (Headed gr.signature gr.program s (HasEntry gr s) (HasEmpty gr s) m) (sym us_are) headed),
+                r.hold y e c (suc n) (suc g) var (λ i low. at_next y.node n i (r.nodes i) (node (suc i) (omega arith))) (λ i low. at_next y.words g i (r.words i) (said (suc i) (omega arith))),
+              ),
+            );
         pieces = λ y ps g own said.
-          let us_are : y.words g ≡ vs = at_first y.words g vs (said 0 (omega arith)) in
-          ap (λ z. z ++ spell y.words (element_pieces ps (suc g) es)) us_are ∙ ap (λ z. vs ++ z) (r.pieces y ps (suc g) own (λ i low. at_next y.words g i (r.words i) (said (suc i) (omega arith))));
+            let us_are : y.words g ≡ vs = at_first y.words g vs (said 0 (omega arith)) in
+            ap (λ z. z ++ spell y.words (element_pieces ps (suc g) es)) us_are ∙ ap (λ z. vs ++ z) (r.pieces y ps (suc g) own (λ i low. at_next y.words g i (r.words i) (said (suc i) (omega arith))));
       }
   daughters_of assign us _ _ (spells_cats _ _ d es m vs ws here headed rest) =
       let r = daughters_of assign us es ws rest in
@@ -104,14 +106,17 @@ module _ (gr : Grammar) (s : Structure) where
         words = ahead vs r.words;
         inside = ahead_inside m (daughters es) r.nodes (list_inside gr s m vs headed) r.inside;
         hold = λ y e c n g var node said.
-          let is : y.node n ≡ m = at_first y.node n m (node 0 (omega arith)) in
-          let us_are : y.words g ≡ vs = at_first y.words g vs (said 0 (omega arith)) in
-          (subst (HoldsAt gr.signature s (y.var e) d) (sym is) (subst (λ z. HoldsAt gr.signature s z d m) (sym var) here),
-            (subst (λ z. HeadedList gr.signature gr.program s (HasEntry gr s) (HasEmpty gr s) z (y.words g)) (sym is) (subst (HeadedList gr.signature gr.program s (HasEntry gr s) (HasEmpty gr s) m) (sym us_are) headed),
-            r.hold y e c (suc n) (suc g) var (λ i low. at_next y.node n i (r.nodes i) (node (suc i) (omega arith))) (λ i low. at_next y.words g i (r.words i) (said (suc i) (omega arith)))));
+            let is : y.node n ≡ m = at_first y.node n m (node 0 (omega arith)) in
+            let us_are : y.words g ≡ vs = at_first y.words g vs (said 0 (omega arith)) in (
+              subst (HoldsAt gr.signature s (y.var e) d) (sym is) (subst (λ z. HoldsAt gr.signature s z d m) (sym var) here),
+              (
+                subst (λ z. HeadedList gr.signature gr.program s (HasEntry gr s) (HasEmpty gr s) z (y.words g)) (sym is) (subst (HeadedList gr.signature gr.program s (HasEntry gr s) (HasEmpty gr s) m) (sym us_are) headed),
+                r.hold y e c (suc n) (suc g) var (λ i low. at_next y.node n i (r.nodes i) (node (suc i) (omega arith))) (λ i low. at_next y.words g i (r.words i) (said (suc i) (omega arith))),
+              ),
+            );
         pieces = λ y ps g own said.
-          let us_are : y.words g ≡ vs = at_first y.words g vs (said 0 (omega arith)) in
-          ap (λ z. z ++ spell y.words (element_pieces ps (suc g) es)) us_are ∙ ap (λ z. vs ++ z) (r.pieces y ps (suc g) own (λ i low. at_next y.words g i (r.words i) (said (suc i) (omega arith))));
+            let us_are : y.words g ≡ vs = at_first y.words g vs (said 0 (omega arith)) in
+            ap (λ z. z ++ spell y.words (element_pieces ps (suc g) es)) us_are ∙ ap (λ z. vs ++ z) (r.pieces y ps (suc g) own (λ i low. at_next y.words g i (r.words i) (said (suc i) (omega arith))));
       }
   daughters_of assign us _ _ (spells_goal _ _ goal es ws derivable rest) =
       let r = daughters_of assign us es ws rest in
@@ -134,21 +139,21 @@ module _ (gr : Grammar) (s : Structure) (x : Sense) (remain : List Element) (st 
     pub satisfies : Satisfies gr s sense kid remain
 
   rule_up : (waiting : ℕ) (before : ℕ → ℕ → List Item) (us : List Piece) (target : Target) (r : Rule) (assign : ℕ → ℕ) (q : ℕ) (vs : List Word) →
-    FitPieces (scope_of st) target.phrase us → FitsTarget (scope_of st) target → IsAssignment s assign → q < count s → HoldsAt gr.signature s assign r.mother q →
-    Each IsWhole (before (length st.envs) st.next) →
-    ((y : Sense) → Agrees st y x → y.var (length st.envs) ≡ assign → y.node st.next ≡ q → Each (HoldsItem gr s y) (before (length st.envs) st.next)) →
-    Daughters gr s assign (spell x.words us) r.elements vs → IsConnected gr s x q vs target → IsSatisfied (by_rule waiting before us target r st)
+      FitPieces (scope_of st) target.phrase us → FitsTarget (scope_of st) target → IsAssignment s assign → q < count s → HoldsAt gr.signature s assign r.mother q →
+      Each IsWhole (before (length st.envs) st.next) →
+      ((y : Sense) → Agrees st y x → y.var (length st.envs) ≡ assign → y.node st.next ≡ q → Each (HoldsItem gr s y) (before (length st.envs) st.next)) →
+      Daughters gr s assign (spell x.words us) r.elements vs → IsConnected gr s x q vs target → IsSatisfied (by_rule waiting before us target r st)
   rule_up waiting before us target r assign q vs fit fit_target nodes inside mother whole first d connected = record {
     sense = y;
     agrees = agrees;
     satisfies = doing_all_up gr s remain y (on st.next (holds e r.mother) ∷ before e st.next) second (tt, whole)
-      (subst (λ z. HoldsAt gr.signature s z r.mother (y.node st.next)) (sym var) (subst (HoldsAt gr.signature s assign r.mother) (sym node) mother), first y agrees var node)
-      (doing_all_up gr s remain y (element_items e waiting (suc st.next) st.phrases r.elements) third (whole_elements e waiting (suc st.next) st.phrases r.elements)
+        (subst (λ z. HoldsAt gr.signature s z r.mother (y.node st.next)) (sym var) (subst (HoldsAt gr.signature s assign r.mother) (sym node) mother), first y agrees var node)
+        (doing_all_up gr s remain y (element_items e waiting (suc st.next) st.phrases r.elements) third (whole_elements e waiting (suc st.next) st.phrases r.elements)
         (d.hold y e waiting (suc st.next) st.phrases var (λ i low. at_next y.node st.next i (d.nodes i) (shift_new x1.node st.next f (suc i))) (λ i low. shift_new x1.words st.phrases d.words i))
         (doing_up gr s remain y (connect st.next (element_pieces us st.phrases r.elements) target) last tt
-          (subst (λ z. IsConnected gr s y z (spell y.words (element_pieces us st.phrases r.elements)) target) (sym node)
-            (subst (λ z. IsConnected gr s y q z target) (sym pieces) (connected_agrees gr s (scope_of st) y x (agree_on st y x agrees) q vs target fit_target connected)))
-          sat_last));
+        (subst (λ z. IsConnected gr s y z (spell y.words (element_pieces us st.phrases r.elements)) target) (sym node)
+        (subst (λ z. IsConnected gr s y q z target) (sym pieces) (connected_agrees gr s (scope_of st) y x (agree_on st y x agrees) q vs target fit_target connected)))
+        sat_last));
   }
     where
       e : ℕ
@@ -223,7 +228,7 @@ module _ (gr : Grammar) (s : Structure) (x : Sense) (remain : List Element) (st 
       let old : y.node n ≡ m = shift_old x.node st.next (λ i. sem) n low ∙ sym em in
       let nodes : y.node n ∷ y.node st.next ∷ [] ≡ m ∷ sem ∷ [] = ap (λ z. z ∷ y.node st.next ∷ []) old ∙ ap (λ z. m ∷ z ∷ []) new in
       let call : Callable gr.signature gr.program s pred (y.node n ∷ y.node st.next ∷ []) =
-        subst (Callable gr.signature gr.program s pred) (sym nodes) (subst (λ z. Callable gr.signature gr.program s z (m ∷ sem ∷ [])) same means.2) in
+      subst (Callable gr.signature gr.program s pred) (sym nodes) (subst (λ z. Callable gr.signature gr.program s z (m ∷ sem ∷ [])) same means.2) in
       let linked : IsConnected gr s y p us target = record {
         steps = c;
         few = omega arith;
@@ -231,7 +236,7 @@ module _ (gr : Grammar) (s : Structure) (x : Sense) (remain : List Element) (st 
       } in
       let found : HasPivot gr s y (y.node st.next) target = record { pivot = p; words = us; is = subst (λ z. IsPivot gr.signature gr.program s (HasEntry gr s) (HasEmpty gr s) p z us) (sym new) pv; connected = linked } in
       one_new gr s st x remain y (doing_all (called pred (n ∷ st.next ∷ []) ∷ pivot st.next target ∷ []) (grown 1 st)) [] (agrees_nodes gr s remain x st (λ i. sem))
-        (doing_all_up gr s remain y (called pred (n ∷ st.next ∷ []) ∷ pivot st.next target ∷ []) (grown 1 st) (tt, (tt, tt)) (call, (found, tt)) (grown_up gr s remain x 1 (λ i. sem) st is (λ i q. there) sat))
+      (doing_all_up gr s remain y (called pred (n ∷ st.next ∷ []) ∷ pivot st.next target ∷ []) (grown 1 st) (tt, (tt, tt)) (call, (found, tt)) (grown_up gr s remain x 1 (λ i. sem) st is (λ i q. there) sat))
 
   pub generate_one : (n g : ℕ) → n < st.next → Headed gr.signature gr.program s (HasEntry gr s) (HasEmpty gr s) (x.node n) (x.words g) → SatisfiesOne gr s st x remain (generate_kids gr.program.semantics n g st)
   generate_one n g low p = generate_go gr.program.semantics refl n g low (x.node n) (x.words g) p refl refl
@@ -243,7 +248,7 @@ module _ (gr : Grammar) (s : Structure) (x : Sense) (remain : List Element) (st 
   list_go (Some l) are n g low m _ (list_end _ inside empty) em ew =
       let type : IsEmptyListOf gr.signature (Some l) s (x.node n) = subst (IsEmptyListOf gr.signature (Some l) s) em (subst (λ z. IsEmptyListOf gr.signature z s m) are empty) in
       one_first gr s st x remain (told (OfType n l.e_list) (say g [] st)) _
-        (told_up gr s remain x (OfType n l.e_list) (say g [] st) type (say_up gr s remain x g [] st (sym ew) sat))
+      (told_up gr s remain x (OfType n l.e_list) (say g [] st) type (say_up gr s remain x g [] st (sym ew) sat))
   list_go (Some l) are n g low m _ (list_on _ hd tl vs ws inside cell first others) em ew =
       let f : ℕ → List Word = ahead vs (λ i. ws) in
       let y : Sense = with_words x st.phrases f in
@@ -262,17 +267,17 @@ module _ (gr : Grammar) (s : Structure) (x : Sense) (remain : List Element) (st 
       let tl_is : value_of s (x.node n) l.tl ≡ Some tl = subst (λ z. value_of s z l.tl ≡ Some tl) em (subst (λ z. tl_of z s m ≡ Some tl) are cell.tl_is) in
       let told_sat : Satisfies gr s y (told (OfType n l.ne_list) second) remain = told_up gr s remain y (OfType n l.ne_list) second type (say_up gr s remain y g ps third (whole ∙ sym parts) (words_up gr s remain x 2 f st is sat)) in
       one_later gr s st x remain (told (OfType n l.e_list) (say g [] st)) (longer ∷ [])
-        (one_new gr s st x remain y longer [] (agrees_words gr s remain x st f)
-          (doing_all_up gr s remain y items (told (OfType n l.ne_list) second) (tt, (tt, tt))
-            ((hd, hd_is, subst (Headed gr.signature gr.program s (HasEntry gr s) (HasEmpty gr s) hd) (sym one) first), ((tl, tl_is, subst (HeadedList gr.signature gr.program s (HasEntry gr s) (HasEmpty gr s) tl) (sym two) others), tt))
-            told_sat))
+      (one_new gr s st x remain y longer [] (agrees_words gr s remain x st f)
+      (doing_all_up gr s remain y items (told (OfType n l.ne_list) second) (tt, (tt, tt))
+      ((hd, hd_is, subst (Headed gr.signature gr.program s (HasEntry gr s) (HasEmpty gr s) hd) (sym one) first), ((tl, tl_is, subst (HeadedList gr.signature gr.program s (HasEntry gr s) (HasEmpty gr s) tl) (sym two) others), tt))
+      told_sat))
 
   pub list_one : (n g : ℕ) → g < st.phrases → HeadedList gr.signature gr.program s (HasEntry gr s) (HasEmpty gr s) (x.node n) (x.words g) → SatisfiesOne gr s st x remain (list_kids gr.program.lists n g st)
   list_one n g low p = list_go gr.program.lists refl n g low (x.node n) (x.words g) p refl refl
 
   -- a pivot from an entry or an empty
   entry_up : (pred sm : ℕ) (target : Target) (pieces : List Piece) (entry : Entry) (p : ℕ) (ws : List Word) → sm < st.next → FitsTarget (scope_of st) target → IsEntry gr.signature entry → StandsAt gr.signature s entry p → Callable gr.signature gr.program s pred (p ∷ x.node sm ∷ []) →
-    ((y : Sense) → spell y.words pieces ≡ ws) → IsConnected gr s x p ws target → IsSatisfied (by_entry pred sm target pieces entry st)
+      ((y : Sense) → spell y.words pieces ≡ ws) → IsConnected gr s x p ws target → IsSatisfied (by_entry pred sm target pieces entry st)
   entry_up pred sm target pieces entry p ws low fit is_entry stands call spells connected =
       let y : Sense = with_nodes x st.next stands.map in
       let agrees : Agrees st y x = agrees_nodes gr s remain x st stands.map in
@@ -280,13 +285,13 @@ module _ (gr : Grammar) (s : Structure) (x : Sense) (remain : List Element) (st 
       let old : y.node sm ≡ x.node sm = shift_old x.node st.next stands.map sm low in
       let nodes : (y.node (st.next + entry.root)) ∷ y.node sm ∷ [] ≡ p ∷ x.node sm ∷ [] = ap (λ z. z ∷ y.node sm ∷ []) new ∙ ap (λ z. p ∷ z ∷ []) old in
       let linked : IsConnected gr s y (y.node (st.next + entry.root)) (spell y.words pieces) target =
-        subst (λ z. IsConnected gr s y z (spell y.words pieces) target) (sym new) (subst (λ z. IsConnected gr s y p z target) (sym (spells y)) (connected_agrees gr s (scope_of st) y x (agree_on st y x agrees) p ws target fit connected)) in
+      subst (λ z. IsConnected gr s y z (spell y.words pieces) target) (sym new) (subst (λ z. IsConnected gr s y p z target) (sym (spells y)) (connected_agrees gr s (scope_of st) y x (agree_on st y x agrees) p ws target fit connected)) in
       record {
         sense = y;
         agrees = agrees;
         satisfies = doing_all_up gr s remain y (called pred ((st.next + entry.root) ∷ sm ∷ []) ∷ connect (st.next + entry.root) pieces target ∷ []) (putting entry.kept st) (tt, (tt, tt))
-          (subst (Callable gr.signature gr.program s pred) (sym nodes) call, (linked, tt))
-          (put_up gr s remain x entry.kept entry.root stands.map st is_entry is stands.is sat);
+            (subst (Callable gr.signature gr.program s pred) (sym nodes) call, (linked, tt))
+            (put_up gr s remain x entry.kept entry.root stands.map st is_entry is stands.is sat);
       }
 
   entries_one : (pred sm : ℕ) (target : Target) (entries : List Entry) (entry : Entry) → Has entries entry → IsSatisfied (by_entry pred sm target (word entry.word ∷ []) entry st) → SatisfiesOne gr s st x remain (entry_kids pred sm target entries st)
@@ -321,7 +326,7 @@ module _ (gr : Grammar) (s : Structure) (x : Sense) (remain : List Element) (st 
       later (Some d) q = q
 
   pivot_go : (waiting : ℕ) (sems : Option ℕ) → gr.program.semantics ≡ sems → ((e : Entry) → Has gr.words.entries e ⊎ Has gr.words.empties e → IsEntry gr.signature e) → (sm : ℕ) (target : Target) → sm < st.next → FitsTarget (scope_of st) target →
-    (p sem : ℕ) (ws : List Word) → IsPivot gr.signature gr.program s (HasEntry gr s) (HasEmpty gr s) p sem ws → sem ≡ x.node sm → IsConnected gr s x p ws target → SatisfiesOne gr s st x remain (pivot_kids gr waiting sems sm target st)
+      (p sem : ℕ) (ws : List Word) → IsPivot gr.signature gr.program s (HasEntry gr s) (HasEmpty gr s) p sem ws → sem ≡ x.node sm → IsConnected gr s x p ws target → SatisfiesOne gr s st x remain (pivot_kids gr waiting sems sm target st)
   pivot_go waiting None are words sm target low fit p sem _ (word_pivot _ _ w inside entry means) es connected = absurd (none_some (sym are ∙ means.1))
   pivot_go waiting None are words sm target low fit p sem _ (empty_pivot _ _ inside entry means) es connected = absurd (none_some (sym are ∙ means.1))
   pivot_go waiting None are words sm target low fit p sem ws (rule_pivot _ _ _ r assign has none nodes inside mother means spells) es connected = absurd (none_some (sym are ∙ means.1))
@@ -329,24 +334,24 @@ module _ (gr : Grammar) (s : Structure) (x : Sense) (remain : List Element) (st 
       let same : means.0 ≡ pred = some_one (sym means.1 ∙ are) in
       let call : Callable gr.signature gr.program s pred (p ∷ x.node sm ∷ []) = subst (λ z. Callable gr.signature gr.program s pred (p ∷ z ∷ [])) es (subst (λ z. Callable gr.signature gr.program s z (p ∷ sem ∷ [])) same means.2) in
       one_left gr s st x remain (entry_kids pred sm target gr.words.entries st) (empty_kids pred sm target gr.words.empties st ++ pivot_rules waiting pred sm target gr.program.rules st)
-        (entries_one pred sm target gr.words.entries entry.0 entry.1
-          (entry_up pred sm target (word entry.0.word ∷ []) entry.0 p (w ∷ []) low fit (words entry.0 (inl entry.1)) entry.3 call (λ y. ap (λ z. z ∷ []) entry.2) connected))
+      (entries_one pred sm target gr.words.entries entry.0 entry.1
+      (entry_up pred sm target (word entry.0.word ∷ []) entry.0 p (w ∷ []) low fit (words entry.0 (inl entry.1)) entry.3 call (λ y. ap (λ z. z ∷ []) entry.2) connected))
   pivot_go waiting (Some pred) are words sm target low fit p sem _ (empty_pivot _ _ inside entry means) es connected =
       let same : means.0 ≡ pred = some_one (sym means.1 ∙ are) in
       let call : Callable gr.signature gr.program s pred (p ∷ x.node sm ∷ []) = subst (λ z. Callable gr.signature gr.program s pred (p ∷ z ∷ [])) es (subst (λ z. Callable gr.signature gr.program s z (p ∷ sem ∷ [])) same means.2) in
       one_right gr s st x remain (entry_kids pred sm target gr.words.entries st) (empty_kids pred sm target gr.words.empties st ++ pivot_rules waiting pred sm target gr.program.rules st)
-        (one_left gr s st x remain (empty_kids pred sm target gr.words.empties st) (pivot_rules waiting pred sm target gr.program.rules st)
-          (empties_one pred sm target gr.words.empties entry.0 entry.1
-            (entry_up pred sm target [] entry.0 p [] low fit (words entry.0 (inr entry.1)) entry.2 call (λ y. refl) connected)))
+      (one_left gr s st x remain (empty_kids pred sm target gr.words.empties st) (pivot_rules waiting pred sm target gr.program.rules st)
+      (empties_one pred sm target gr.words.empties entry.0 entry.1
+      (entry_up pred sm target [] entry.0 p [] low fit (words entry.0 (inr entry.1)) entry.2 call (λ y. refl) connected)))
   pivot_go waiting (Some pred) are words sm target low fit p sem ws (rule_pivot _ _ _ r assign has none nodes inside mother means spells) es connected =
       let same : means.0 ≡ pred = some_one (sym means.1 ∙ are) in
       let call : Callable gr.signature gr.program s pred (p ∷ x.node sm ∷ []) = subst (λ z. Callable gr.signature gr.program s pred (p ∷ z ∷ [])) es (subst (λ z. Callable gr.signature gr.program s z (p ∷ sem ∷ [])) same means.2) in
       one_right gr s st x remain (entry_kids pred sm target gr.words.entries st) (empty_kids pred sm target gr.words.empties st ++ pivot_rules waiting pred sm target gr.program.rules st)
-        (one_right gr s st x remain (empty_kids pred sm target gr.words.empties st) (pivot_rules waiting pred sm target gr.program.rules st)
-          (pivot_rules_one waiting pred sm target gr.program.rules r has none
-            (rule_up waiting (λ e q. called pred (q ∷ sm ∷ []) ∷ []) [] target r assign p ws tt fit nodes inside mother (tt, tt)
-              (λ y agrees var node. (subst (Callable gr.signature gr.program s pred) (sym (ap (λ z. z ∷ y.node sm ∷ []) node ∙ ap (λ z. p ∷ z ∷ []) (agrees.node sm low))) call, tt))
-              (daughters_of gr s assign [] r.elements ws spells) connected)))
+      (one_right gr s st x remain (empty_kids pred sm target gr.words.empties st) (pivot_rules waiting pred sm target gr.program.rules st)
+      (pivot_rules_one waiting pred sm target gr.program.rules r has none
+      (rule_up waiting (λ e q. called pred (q ∷ sm ∷ []) ∷ []) [] target r assign p ws tt fit nodes inside mother (tt, tt)
+      (λ y agrees var node. (subst (Callable gr.signature gr.program s pred) (sym (ap (λ z. z ∷ y.node sm ∷ []) node ∙ ap (λ z. p ∷ z ∷ []) (agrees.node sm low))) call, tt))
+      (daughters_of gr s assign [] r.elements ws spells) connected)))
 
   pub pivot_one : (waiting : ℕ) → ((e : Entry) → Has gr.words.entries e ⊎ Has gr.words.empties e → IsEntry gr.signature e) → (sm : ℕ) (target : Target) → sm < st.next → FitsTarget (scope_of st) target → HasPivot gr s x (x.node sm) target → SatisfiesOne gr s st x remain (pivot_kids gr waiting gr.program.semantics sm target st)
   pivot_one waiting words sm target low fit p = pivot_go waiting gr.program.semantics refl words sm target low fit p.pivot (x.node sm) p.words p.is refl p.connected
@@ -370,22 +375,22 @@ module _ (gr : Grammar) (s : Structure) (x : Sense) (remain : List Element) (st 
       later (Some d0) q = one_later gr s st x remain (by_rule waiting (λ e q. on p (holds e d0) ∷ []) us (one_up target) r0 st) (upward_rules waiting p us target rs st) q
 
   connect_go : (waiting p : ℕ) (us : List Piece) (target : Target) → p < st.next → FitsTarget (scope_of st) target → FitPieces (scope_of st) target.phrase us → (a : ℕ) (vs : List Word) (b : ℕ) (ws : List Word) (k : ℕ) → IsChain gr.signature gr.program s (HasEntry gr s) (HasEmpty gr s) a vs b ws k →
-    a ≡ x.node p → vs ≡ spell x.words us → b ≡ x.node target.node → ws ≡ x.words target.phrase → k ≤ gr.program.chain_length - target.steps → SatisfiesOne gr s st x remain (connect_kids gr waiting p us target st)
+      a ≡ x.node p → vs ≡ spell x.words us → b ≡ x.node target.node → ws ≡ x.words target.phrase → k ≤ gr.program.chain_length - target.steps → SatisfiesOne gr s st x remain (connect_kids gr waiting p us target st)
   connect_go waiting p us target low fit fit_us _ _ _ _ _ (arrived a vs) ea ev eb ew few =
       one_first gr s st x remain (told (Same p target.node) (say target.phrase us st)) _
-        (told_up gr s remain x (Same p target.node) (say target.phrase us st) (sym ea ∙ eb) (say_up gr s remain x target.phrase us st (sym ew ∙ ev) sat))
+      (told_up gr s remain x (Same p target.node) (say target.phrase us st) (sym ea ∙ eb) (say_up gr s remain x target.phrase us st (sym ew ∙ ev) sat))
   connect_go waiting p us target low fit fit_us _ _ _ _ _ (upward a q b c vs us' ws r d assign has some nodes inside mother below spells chain) ea ev eb ew few =
       one_later gr s st x remain (told (Same p target.node) (say target.phrase us st)) _
-        (subst (λ z. SatisfiesOne gr s st x remain (cond z (upward_rules waiting p us target gr.program.rules st) [])) (sym more)
-          (upward_rules_one waiting p us target gr.program.rules r d has some
-            (rule_up waiting (λ e q. on p (holds e d) ∷ []) us (one_up target) r assign q us' fit_us fit nodes inside mother (tt, tt)
-              (λ y agrees var node. (subst (λ z. HoldsAt gr.signature s z d (y.node p)) (sym var) (subst (HoldsAt gr.signature s assign d) (sym (agrees.node p low ∙ sym ea)) below), tt))
-              (daughters_of gr s assign (spell x.words us) r.elements us' (subst (λ z. Spelled assign z r.elements us') ev spells))
-              (record {
-                steps = c;
-                few = omega (arith, few);
-                chain = subst (λ z. IsChain gr.signature gr.program s (HasEntry gr s) (HasEmpty gr s) q us' z (x.words target.phrase) c) eb (subst (λ z. IsChain gr.signature gr.program s (HasEntry gr s) (HasEmpty gr s) q us' b z c) ew chain);
-              }))))
+      (subst (λ z. SatisfiesOne gr s st x remain (cond z (upward_rules waiting p us target gr.program.rules st) [])) (sym more)
+      (upward_rules_one waiting p us target gr.program.rules r d has some
+      (rule_up waiting (λ e q. on p (holds e d) ∷ []) us (one_up target) r assign q us' fit_us fit nodes inside mother (tt, tt)
+      (λ y agrees var node. (subst (λ z. HoldsAt gr.signature s z d (y.node p)) (sym var) (subst (HoldsAt gr.signature s assign d) (sym (agrees.node p low ∙ sym ea)) below), tt))
+      (daughters_of gr s assign (spell x.words us) r.elements us' (subst (λ z. Spelled assign z r.elements us') ev spells))
+      (record {
+        steps = c;
+        few = omega (arith, few);
+        chain = subst (λ z. IsChain gr.signature gr.program s (HasEntry gr s) (HasEmpty gr s) q us' z (x.words target.phrase) c) eb (subst (λ z. IsChain gr.signature gr.program s (HasEntry gr s) (HasEmpty gr s) q us' b z c) ew chain);
+      }))))
     where
       more : ltb target.steps gr.program.chain_length ≡ true
       more = lt-ltb target.steps gr.program.chain_length (omega (arith, few))

@@ -1,5 +1,5 @@
 -- The words by which a state goes on give states, which have all that was there.
-use Rattle.std.proofs.Common.{◌≡◌, ℕ, ◌+◌, ◌<◌, ◌≤◌, List, [], ◌∷◌, ◌++◌, length, ◌⊎◌, inl, inr, refl, sym, ap, ◌∙◌, subst, arith, replicate, Option, Some, None, map}
+use Rattle.std.proofs.Common.{◌≡◌, ℕ, ◌+◌, ◌<◌, List, [], ◌∷◌, ◌++◌, length, ◌⊎◌, inl, inr, refl, sym, ap, ◌∙◌, subst, arith, replicate, None}
 use Rattle.std.proofs.lemmas.List.{append-nil, append_assoc}
 use Rattle.ale_declared.specs.Lists.{Has}
 use Rattle.ale_hierarchy.specs.Hierarchy.{Hierarchy}
@@ -7,14 +7,13 @@ use Rattle.ale_graph.specs.declared.fact.Fact.{Fact}
 use Rattle.ale_graph.specs.declared.closed.Closed.{Closed}
 use Rattle.ale_graph.specs.Facts.{FitsFact, Fits}
 use Rattle.ale_graph.specs.Universal.{IsClosure}
-use Rattle.ale_graph.proofs.Lists.{has_left, has_right, has_either}
+use Rattle.ale_graph.proofs.Lists.{has_left, has_either}
 use Rattle.ale_logic.specs.Programs.{Element, member, tail}
-use Rattle.ale_logic.specs.Words.{Environment}
-use Rattle.ale_logic.specs.States.{Piece, Item, env_at, bound, State, told, doing, doing_all, grown, with_env, bind, imposing, with_phrases, say, remaining, chosen}
+use Rattle.ale_logic.specs.States.{Piece, Item, env_at, State, told, doing, doing_all, grown, with_env, bind, imposing, with_phrases, say, remaining, chosen}
 use Rattle.ale_logic.specs.Visits.{closed_at}
-use Rattle.ale_logic.specs.WellFormed.{Scope, scope_of, FitPieces, FitsItem, FitItems, IsBelow, FitsRest, IsState}
+use Rattle.ale_logic.specs.WellFormed.{Scope, scope_of, FitPieces, FitsItem, FitItems, FitsRest, IsState}
 use Rattle.ale_step_law.proofs.Closures.{given_has}
-use Rattle.ale_step_law.proofs.EnvLists.{binding_of, bind_length, bind_lengths, bind_cases, bound_back, env_old, more_envs}
+use Rattle.ale_step_law.proofs.EnvLists.{bind_length, bind_lengths, bind_cases, bound_back, env_old, more_envs}
 use Rattle.ale_step_law.proofs.Wider.{Wider, wider_self, wider_on, fact_wider, items_wider, rest_wider, pieces_wider}
 
 -- b is a state, and has all of a; what was imposed on a comes first

@@ -1,19 +1,19 @@
 -- The kids of each item, of every program, are states that have all of the state before.
-use Rattle.std.proofs.Common.{◌≡◌, ℕ, zero, suc, ◌+◌, ◌<◌, ◌≤◌, Bool, true, false, ltb, cond, List, [], ◌∷◌, ◌++◌, length, ◌⊎◌, inl, inr, refl, sym, ap, ◌∙◌, subst, arith, replicate, Option, Some, None}
+use Rattle.std.proofs.Common.{◌≡◌, ℕ, suc, ◌+◌, ◌<◌, ◌≤◌, Bool, true, false, ltb, cond, List, [], ◌∷◌, ◌++◌, length, ◌⊎◌, inl, inr, refl, sym, subst, arith, replicate, Option, Some, None}
 use Rattle.ale_declared.specs.Lists.{Has}
-use Rattle.ale_hierarchy.specs.Hierarchy.{Hierarchy, Above, IsLawful}
+use Rattle.ale_hierarchy.specs.Hierarchy.{Hierarchy, IsLawful}
 use Rattle.ale_graph.specs.declared.closed.Closed.{Closed}
-use Rattle.ale_graph.specs.declared.fact.Fact.TheVariants.{OfType, Value, Same, Differ}
+use Rattle.ale_graph.specs.declared.fact.Fact.TheVariants.{OfType, Same, Differ}
 use Rattle.ale_graph.specs.Filling.{class_value}
 use Rattle.ale_graph.specs.Closure.{class_of}
 use Rattle.ale_graph.proofs.Lists.{has_right, some_one}
 use Rattle.ale_logic.specs.Descriptions.{Description, Descriptions, of_type, slot, at, all, any, differs, path_equation, none, more, how_many, FitsPath, FitsDescription, FitDescriptions}
 use Rattle.ale_logic.specs.Goals.{Goal, Goals, yes, cut, each, either, equal, call, unless, if_else, once, no_goal, and_goal, FitsGoal, FitGoals}
-use Rattle.ale_logic.specs.Programs.{Element, cat, cats, derived, sem_head, member, tail, Clause, Constraint, Rule, ListTypes, Program, clauses_of, goal_of}
+use Rattle.ale_logic.specs.Programs.{Element, cat, cats, derived, sem_head, member, tail, Clause, Constraint, Rule, ListTypes, clauses_of, goal_of}
 use Rattle.ale_logic.specs.Fitting.{FitsClause, FitsConstraint, FitsElement, FitsRule, FitLists, FitsProgram}
 use Rattle.ale_logic.specs.Words.{Entry, IsEntry, Grammar}
 use Rattle.ale_logic.specs.Headed.{semantic_head}
-use Rattle.ale_logic.specs.States.{Demand, holds, ends_with, leads, generates, generates_all, Target, Piece, word, phrase, Item, on, take, derive, called, cuts, stop, split, pivot, connect, bound, env_at, State, told, doing, doing_all, grown, with_env, bind, imposing, with_phrases, say, remaining}
+use Rattle.ale_logic.specs.States.{Demand, holds, ends_with, leads, generates, generates_all, Target, Piece, word, phrase, Item, on, take, derive, called, cuts, stop, split, pivot, connect, bound, env_at, State, told, doing, doing_all, grown, with_env, imposing, with_phrases, say, remaining}
 use Rattle.ale_logic.specs.DescriptionKids.{stepping, leading, equating_paths, binding, items_at, alternatives, differing, taken}
 use Rattle.ale_logic.specs.GoalKids.{numbers, items_each, goals, goal_alternatives, equating, calling, goal_kids, by_clause, clause_kids, doing_goal, with_constraint}
 use Rattle.ale_logic.specs.Putting.{putting}
@@ -21,7 +21,7 @@ use Rattle.ale_logic.specs.GenerationKids.{daughters, element_items, element_pie
 use Rattle.ale_logic.specs.Visits.{kids}
 use Rattle.ale_logic.specs.WellFormed.{Scope, scope_of, FitsIn, FitsGoalIn, FitsEnd, FitsDemand, AreBelow, FitPieces, FitsTarget, FitsItem, FitItems, IsState}
 use Rattle.ale_step_law.proofs.EnvLists.{more_envs, new_length}
-use Rattle.ale_step_law.proofs.Wider.{Wider, in_wider, demand_wider, goal_wider, pieces_wider}
+use Rattle.ale_step_law.proofs.Wider.{Wider, demand_wider, pieces_wider}
 use Rattle.ale_step_law.proofs.Growing.{Goes, goes_self, goes_told, goes_doing, goes_doing_all, goes_grown, goes_with_env, goes_bind, goes_imposing, goes_with_phrases, goes_say, goes_remaining}
 use Rattle.ale_step_law.proofs.PutFits.{goes_putting}
 use Rattle.ale_step_law.proofs.Every.{Every, every_none, every_more, every_one, every_both}
@@ -73,9 +73,12 @@ module _ (h : Hierarchy) (law : IsLawful h) (st : State) (is : IsState h st) whe
   stepping_on : (n f : ℕ) (d : Demand) → n < st.next → f < h.features → FitsDemand h (scope_of st) d → Goes h st (stepping h n f d st)
   stepping_on n f d low known fit =
       let g = goes_told h st st self (OfType n (h.intro f)) (low, law.intro_inside f known) in
-      goes_doing h st (told (OfType n (h.intro f)) st) g (take n f d)
-        (low, known, demand_wider h (scope_of st) (scope_of (told (OfType n (h.intro f)) st)) g.wider d fit,
-          (h.intro f, has_right st.facts (OfType n (h.intro f) ∷ []) (OfType n (h.intro f)) (inl refl), law.along_self (h.intro f)))
+      goes_doing h st (told (OfType n (h.intro f)) st) g (take n f d) (
+        low,
+        known,
+        demand_wider h (scope_of st) (scope_of (told (OfType n (h.intro f)) st)) g.wider d fit,
+        (h.intro f, has_right st.facts (OfType n (h.intro f) ∷ []) (OfType n (h.intro f)) (inl refl), law.along_self (h.intro f)),
+      )
 
   leading_on : (b : ℕ) (q : List ℕ) (a : ℕ) → b < st.next → FitsPath h q → a < st.next → Goes h st (leading h b q a st)
   leading_on b [] a low fit other = goes_told h st st self (Same a b) (other, low)
@@ -133,14 +136,14 @@ module _ (h : Hierarchy) (law : IsLawful h) (st : State) (is : IsState h st) whe
   goal_on waiting e c (call p ds) fit = every_one (Goes h st) (calling e p ds st) (calling_on e p ds fit.0 fit.1)
   goal_on waiting e c (unless g) fit =
       every_more (Goes h st) (doing_all (derive e waiting g ∷ cuts waiting ∷ stop ∷ []) st) (st ∷ [])
-        (goes_doing_all h st st self (derive e waiting g ∷ cuts waiting ∷ stop ∷ []) ((fit.0, fit.1), (tt, (tt, tt)))) (every_one (Goes h st) st self)
+      (goes_doing_all h st st self (derive e waiting g ∷ cuts waiting ∷ stop ∷ []) ((fit.0, fit.1), (tt, (tt, tt)))) (every_one (Goes h st) st self)
   goal_on waiting e c (if_else g t f) fit =
       every_more (Goes h st) (doing_all (derive e waiting g ∷ cuts waiting ∷ derive e c t ∷ []) st) (doing (derive e c f) st ∷ [])
-        (goes_doing_all h st st self (derive e waiting g ∷ cuts waiting ∷ derive e c t ∷ []) ((fit.0, fit.1.0), (tt, ((fit.0, fit.1.1), tt))))
-        (every_one (Goes h st) (doing (derive e c f) st) (goes_doing h st st self (derive e c f) (fit.0, fit.1.2)))
+      (goes_doing_all h st st self (derive e waiting g ∷ cuts waiting ∷ derive e c t ∷ []) ((fit.0, fit.1.0), (tt, ((fit.0, fit.1.1), tt))))
+      (every_one (Goes h st) (doing (derive e c f) st) (goes_doing h st st self (derive e c f) (fit.0, fit.1.2)))
   goal_on waiting e c (once g t) fit =
       every_one (Goes h st) (doing_all (derive e waiting g ∷ cuts waiting ∷ derive e c t ∷ []) st)
-        (goes_doing_all h st st self (derive e waiting g ∷ cuts waiting ∷ derive e c t ∷ []) ((fit.0, fit.1.0), (tt, ((fit.0, fit.1.1), tt))))
+      (goes_doing_all h st st self (derive e waiting g ∷ cuts waiting ∷ derive e c t ∷ []) ((fit.0, fit.1.0), (tt, ((fit.0, fit.1.1), tt))))
 
   -- a new environment is there, with its slots
   env_there : (slots : ℕ) → length st.envs < length (with_env slots st).envs
@@ -153,7 +156,7 @@ module _ (h : Hierarchy) (law : IsLawful h) (st : State) (is : IsState h st) whe
       let a = goes_with_env h st st self c.slots in
       let b = goes_doing h st (with_env c.slots st) a (derive e waiting c.body) (env_there c.slots, subst (λ z. FitsGoal h z c.body) (sym slots) fit.body) in
       goes_doing_all h st (doing (derive e waiting c.body) (with_env c.slots st)) b (items_each e c.args ns)
-        (each_fit h (scope_of (doing (derive e waiting c.body) (with_env c.slots st))) e c.args ns (env_there c.slots) (subst (λ z. FitDescriptions h z c.args) (sym slots) fit.args) low)
+      (each_fit h (scope_of (doing (derive e waiting c.body) (with_env c.slots st))) e c.args ns (env_there c.slots) (subst (λ z. FitDescriptions h z c.args) (sym slots) fit.args) low)
 
   clauses_on : (waiting : ℕ) (ns : List ℕ) (cs : List Clause) → AreBelow st.next ns → ((c : Clause) → Has cs c → FitsClause h c) → Every (Goes h st) (clause_kids waiting ns cs st)
   clauses_on waiting ns [] low fit = every_none (Goes h st)
@@ -193,8 +196,8 @@ module _ (h : Hierarchy) (law : IsLawful h) (st : State) (is : IsState h st) whe
   split_on None fit n end low fit_end = every_none (Goes h st)
   split_on (Some l) fit n end low fit_end =
       every_more (Goes h st) (told (OfType n l.e_list) (ending end st)) (told (OfType n l.ne_list) (remaining n st) ∷ [])
-        (goes_told h st (ending end st) (ended end fit_end) (OfType n l.e_list) (below end, (fit l refl).e_list))
-        (every_one (Goes h st) (told (OfType n l.ne_list) (remaining n st)) (goes_told h st (remaining n st) (goes_remaining h st st self n low) (OfType n l.ne_list) (low, (fit l refl).ne_list)))
+      (goes_told h st (ending end st) (ended end fit_end) (OfType n l.e_list) (below end, (fit l refl).e_list))
+      (every_one (Goes h st) (told (OfType n l.ne_list) (remaining n st)) (goes_told h st (remaining n st) (goes_remaining h st st self n low) (OfType n l.ne_list) (low, (fit l refl).ne_list)))
     where
       ended : (o : Option (ℕ × Description)) → FitsEnd h (scope_of st) o → Goes h st (ending o st)
       ended None f = self
@@ -210,8 +213,8 @@ module _ (h : Hierarchy) (law : IsLawful h) (st : State) (is : IsState h st) whe
   generate_on (Some sem) n g low few =
       let t : Target = record { node = n; phrase = g; steps = 0 } in
       every_one (Goes h st) (doing_all (called sem (n ∷ st.next ∷ []) ∷ pivot st.next t ∷ []) (grown 1 st))
-        (goes_doing_all h st (grown 1 st) (goes_grown h st st self 1) (called sem (n ∷ st.next ∷ []) ∷ pivot st.next t ∷ [])
-          ((omega arith, (omega arith, tt)), ((omega arith, (omega arith, few)), tt)))
+      (goes_doing_all h st (grown 1 st) (goes_grown h st st self 1) (called sem (n ∷ st.next ∷ []) ∷ pivot st.next t ∷ [])
+      ((omega arith, (omega arith, tt)), ((omega arith, (omega arith, few)), tt)))
 
   list_on : (lists : Option ListTypes) → ((l : ListTypes) → lists ≡ Some l → FitLists h l) → (n g : ℕ) → n < st.next → g < st.phrases → Every (Goes h st) (list_kids lists n g st)
   list_on None fit n g low few = every_none (Goes h st)
@@ -225,10 +228,10 @@ module _ (h : Hierarchy) (law : IsLawful h) (st : State) (is : IsState h st) whe
       let c = goes_told h st (say g ps (with_phrases 2 st)) b (OfType n l.ne_list) (low, f.ne_list) in
       let has = has_right st.facts (OfType n l.ne_list ∷ []) (OfType n l.ne_list) (inl refl) in
       every_more (Goes h st) (told (OfType n l.e_list) (say g [] st)) (doing_all items (told (OfType n l.ne_list) (say g ps (with_phrases 2 st))) ∷ [])
-        (goes_told h st (say g [] st) (goes_say h st st self g [] few tt) (OfType n l.e_list) (low, f.e_list))
-        (every_one (Goes h st) (doing_all items (told (OfType n l.ne_list) (say g ps (with_phrases 2 st))))
-          (goes_doing_all h st (told (OfType n l.ne_list) (say g ps (with_phrases 2 st))) c items
-            ((low, f.hd.0, omega arith, (l.ne_list, has, f.hd.1)), ((low, f.tl.0, omega arith, (l.ne_list, has, f.tl.1)), tt))))
+      (goes_told h st (say g [] st) (goes_say h st st self g [] few tt) (OfType n l.e_list) (low, f.e_list))
+      (every_one (Goes h st) (doing_all items (told (OfType n l.ne_list) (say g ps (with_phrases 2 st))))
+      (goes_doing_all h st (told (OfType n l.ne_list) (say g ps (with_phrases 2 st))) c items
+      ((low, f.hd.0, omega arith, (l.ne_list, has, f.hd.1)), ((low, f.tl.0, omega arith, (l.ne_list, has, f.tl.1)), tt))))
 
   entry_on : (sem sm : ℕ) (t : Target) (pieces : List Piece) (x : Entry) → IsEntry h x → sm < st.next → FitsTarget (scope_of st) t → FitPieces (scope_of st) t.phrase pieces → Goes h st (by_entry sem sm t pieces x st)
   entry_on sem sm t pieces x entry low fit fit_pieces =
@@ -236,7 +239,7 @@ module _ (h : Hierarchy) (law : IsLawful h) (st : State) (is : IsState h st) whe
       let below = entry.root_below in
       let node = fit.0 in
       goes_doing_all h st (putting x.kept st) g (called sem ((st.next + x.root) ∷ sm ∷ []) ∷ connect (st.next + x.root) pieces t ∷ [])
-        ((omega arith, (omega arith, tt)), ((omega arith, (omega arith, fit.1), pieces_wider h (scope_of st) (scope_of (putting x.kept st)) g.wider t.phrase pieces fit_pieces), tt))
+      ((omega arith, (omega arith, tt)), ((omega arith, (omega arith, fit.1), pieces_wider h (scope_of st) (scope_of (putting x.kept st)) g.wider t.phrase pieces fit_pieces), tt))
 
   entries_on : (sem sm : ℕ) (t : Target) (xs : List Entry) → ((x : Entry) → Has xs x → IsEntry h x) → sm < st.next → FitsTarget (scope_of st) t → Every (Goes h st) (entry_kids sem sm t xs st)
   entries_on sem sm t [] are low fit = every_none (Goes h st)
@@ -249,7 +252,7 @@ module _ (h : Hierarchy) (law : IsLawful h) (st : State) (is : IsState h st) whe
       every_more (Goes h st) (by_entry sem sm t [] x st) (empty_kids sem sm t xs st) (entry_on sem sm t [] x (are x (inl refl)) low fit tt) (empties_on sem sm t xs (λ y q. are y (inr q)) low fit)
 
   rule_on : (waiting : ℕ) (before : ℕ → ℕ → List Item) (us : List Piece) (t : Target) (r : Rule) → FitsRule h r → FitsTarget (scope_of st) t → FitPieces (scope_of st) t.phrase us →
-    ((c : Scope) → Wider (scope_of st) c → st.next < c.next → length (env_at c.envs (length st.envs)) ≡ r.slots → length st.envs < length c.envs → FitItems h c (before (length st.envs) st.next)) → Goes h st (by_rule waiting before us t r st)
+      ((c : Scope) → Wider (scope_of st) c → st.next < c.next → length (env_at c.envs (length st.envs)) ≡ r.slots → length st.envs < length c.envs → FitItems h c (before (length st.envs) st.next)) → Goes h st (by_rule waiting before us t r st)
   rule_on waiting before us t r fit fit_target fit_us first =
       let e : ℕ = length st.envs in
       let k : ℕ = daughters r.elements in
@@ -263,11 +266,11 @@ module _ (h : Hierarchy) (law : IsLawful h) (st : State) (is : IsState h st) whe
       let node = fit_target.0 in
       let few = fit_target.1 in
       let d = goes_doing h st last c (connect st.next (element_pieces us st.phrases r.elements) t)
-        (omega arith, (omega arith, omega arith), pieces_fit (scope_of last) t.phrase us st.phrases r.elements (pieces_wider h (scope_of st) (scope_of last) c.wider t.phrase us fit_us) few (omega arith)) in
+      (omega arith, (omega arith, omega arith), pieces_fit (scope_of last) t.phrase us st.phrases r.elements (pieces_wider h (scope_of st) (scope_of last) c.wider t.phrase us fit_us) few (omega arith)) in
       let f = goes_doing_all h st third d (element_items e waiting (suc st.next) st.phrases r.elements)
-        (elements_fit h (scope_of third) e waiting (suc st.next) st.phrases r.elements (env_there r.slots) (λ y q. subst (λ z. FitsElement h z y) (sym slots) (fit.elements y q)) (omega arith) (omega arith)) in
+      (elements_fit h (scope_of third) e waiting (suc st.next) st.phrases r.elements (env_there r.slots) (λ y q. subst (λ z. FitsElement h z y) (sym slots) (fit.elements y q)) (omega arith) (omega arith)) in
       goes_doing_all h st second f (on st.next (holds e r.mother) ∷ before e st.next)
-        ((omega arith, (env_there r.slots, subst (λ z. FitsDescription h z r.mother) (sym slots) fit.mother)), first (scope_of second) f.wider (omega arith) slots (env_there r.slots))
+      ((omega arith, (env_there r.slots, subst (λ z. FitsDescription h z r.mother) (sym slots) fit.mother)), first (scope_of second) f.wider (omega arith) slots (env_there r.slots))
 
   pivot_rules_on : (waiting sem sm : ℕ) (t : Target) (rs : List Rule) → ((r : Rule) → Has rs r → FitsRule h r) → sm < st.next → FitsTarget (scope_of st) t → Every (Goes h st) (pivot_rules waiting sem sm t rs st)
   pivot_rules_on waiting sem sm t [] fit low fit_target = every_none (Goes h st)
@@ -279,16 +282,16 @@ module _ (h : Hierarchy) (law : IsLawful h) (st : State) (is : IsState h st) whe
       go : (o : Option Description) → Every (Goes h st) (pivot_rules waiting sem sm t rs st) → Every (Goes h st) (pivot_rule waiting sem sm t r st o (pivot_rules waiting sem sm t rs st))
       go None later =
           every_more (Goes h st) (by_rule waiting before [] t r st) (pivot_rules waiting sem sm t rs st)
-            (rule_on waiting before [] t r (fit r (inl refl)) fit_target tt (λ c w inside slots there. ((inside, (let i = w.next in omega arith, tt)), tt))) later
+          (rule_on waiting before [] t r (fit r (inl refl)) fit_target tt (λ c w inside slots there. ((inside, (let i = w.next in omega arith, tt)), tt))) later
       go (Some d) later = later
 
   pivot_on : (gr : Grammar) (waiting : ℕ) (sems : Option ℕ) → ((e : Entry) → Has gr.words.entries e ⊎ Has gr.words.empties e → IsEntry h e) → ((r : Rule) → Has gr.program.rules r → FitsRule h r) → (sm : ℕ) (t : Target) → sm < st.next → FitsTarget (scope_of st) t → Every (Goes h st) (pivot_kids gr waiting sems sm t st)
   pivot_on gr waiting None words rules sm t low fit = every_none (Goes h st)
   pivot_on gr waiting (Some sem) words rules sm t low fit =
       every_both (Goes h st) (entry_kids sem sm t gr.words.entries st) (empty_kids sem sm t gr.words.empties st ++ pivot_rules waiting sem sm t gr.program.rules st)
-        (entries_on sem sm t gr.words.entries (λ x k. words x (inl k)) low fit)
-        (every_both (Goes h st) (empty_kids sem sm t gr.words.empties st) (pivot_rules waiting sem sm t gr.program.rules st)
-          (empties_on sem sm t gr.words.empties (λ x k. words x (inr k)) low fit) (pivot_rules_on waiting sem sm t gr.program.rules rules low fit))
+      (entries_on sem sm t gr.words.entries (λ x k. words x (inl k)) low fit)
+      (every_both (Goes h st) (empty_kids sem sm t gr.words.empties st) (pivot_rules waiting sem sm t gr.program.rules st)
+      (empties_on sem sm t gr.words.empties (λ x k. words x (inr k)) low fit) (pivot_rules_on waiting sem sm t gr.program.rules rules low fit))
 
   -- the head's description has its variables where the rule has its own
   head_fit : (slots : ℕ) (es : List Element) (d : Description) → ((y : Element) → Has es y → FitsElement h slots y) → semantic_head es ≡ Some d → FitsDescription h slots d
@@ -311,13 +314,13 @@ module _ (h : Hierarchy) (law : IsLawful h) (st : State) (is : IsState h st) whe
       go None e later = later
       go (Some d) e later =
           every_more (Goes h st) (by_rule waiting (before d) us (one_up t) r st) (upward_rules waiting p us t rs st)
-            (rule_on waiting (before d) us (one_up t) r (fit r (inl refl)) fit_target fit_us
-              (λ c w inside slots there. ((let i = w.next in omega arith, (there, subst (λ z. FitsDescription h z d) (sym slots) (head_fit r.slots r.elements d (fit r (inl refl)).elements e))), tt))) later
+          (rule_on waiting (before d) us (one_up t) r (fit r (inl refl)) fit_target fit_us
+          (λ c w inside slots there. ((let i = w.next in omega arith, (there, subst (λ z. FitsDescription h z d) (sym slots) (head_fit r.slots r.elements d (fit r (inl refl)).elements e))), tt))) later
 
   connect_on : (gr : Grammar) (waiting p : ℕ) (us : List Piece) (t : Target) → ((r : Rule) → Has gr.program.rules r → FitsRule h r) → p < st.next → FitsTarget (scope_of st) t → FitPieces (scope_of st) t.phrase us → Every (Goes h st) (connect_kids gr waiting p us t st)
   connect_on gr waiting p us t rules low fit fit_us =
       every_more (Goes h st) (told (Same p t.node) (say t.phrase us st)) (cond (ltb t.steps gr.program.chain_length) (upward_rules waiting p us t gr.program.rules st) [])
-        (goes_told h st (say t.phrase us st) (goes_say h st st self t.phrase us fit.1 fit_us) (Same p t.node) (low, fit.0)) (go (ltb t.steps gr.program.chain_length))
+      (goes_told h st (say t.phrase us st) (goes_say h st st self t.phrase us fit.1 fit_us) (Same p t.node) (low, fit.0)) (go (ltb t.steps gr.program.chain_length))
     where
       go : (b : Bool) → Every (Goes h st) (cond b (upward_rules waiting p us t gr.program.rules st) [])
       go true = upward_rules_on waiting p us t gr.program.rules rules low fit fit_us
@@ -325,7 +328,7 @@ module _ (h : Hierarchy) (law : IsLawful h) (st : State) (is : IsState h st) whe
 
 -- the whole table
 pub kids_on : (gr : Grammar) → IsLawful gr.signature → FitsProgram gr.signature gr.program → ((e : Entry) → Has gr.words.entries e ⊎ Has gr.words.empties e → IsEntry gr.signature e) → (waiting : ℕ) (c : Closed) (st : State) → IsState gr.signature st →
-  ((n f m : ℕ) → class_value (class_of c) c.facts (class_of c n) f ≡ Some m → m < st.next) → (i : Item) → FitsItem gr.signature (scope_of st) i → Every (Goes gr.signature st) (kids gr waiting c i st)
+    ((n f m : ℕ) → class_value (class_of c) c.facts (class_of c n) f ≡ Some m → m < st.next) → (i : Item) → FitsItem gr.signature (scope_of st) i → Every (Goes gr.signature st) (kids gr waiting c i st)
 kids_on gr law program words waiting c st is below (on n (holds e (of_type t))) fit =
     every_one (Goes gr.signature st) (told (OfType n t) st) (goes_told gr.signature st st (self gr.signature law st is) (OfType n t) (fit.0, fit.1.1))
 kids_on gr law program words waiting c st is below (on n (holds e (slot v))) fit =

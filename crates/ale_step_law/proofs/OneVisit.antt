@@ -7,11 +7,10 @@ use Rattle.ale_graph.specs.declared.closed.Closed.{Closed}
 use Rattle.ale_graph.specs.Structures.{Structure, IsStructure, type_of}
 use Rattle.ale_graph.specs.Closure.{close, class_of, node_of}
 use Rattle.ale_graph.specs.Universal.{IsClosure, ClosesTo, ClosureLaw}
-use Rattle.ale_graph.proofs.Lists.{has_right, has_either, some_one}
+use Rattle.ale_graph.proofs.Lists.{has_either, some_one}
 use Rattle.ale_logic.specs.Descriptions.{of_type, HoldsAt}
 use Rattle.ale_logic.specs.Goals.{Goal, yes, cut, each, either, equal, call, unless, if_else, once, IsPlain}
 use Rattle.ale_logic.specs.Programs.{Element, Constraint, goal_of}
-use Rattle.ale_logic.specs.Fitting.{IsPlainProgram}
 use Rattle.ale_logic.specs.Derivations.{Derivable}
 use Rattle.ale_logic.specs.Models.{MeetsConstraint, MeetsAt, constraint_at, IsModel}
 use Rattle.ale_logic.specs.Words.{Grammar}
@@ -20,15 +19,15 @@ use Rattle.ale_logic.specs.GoalKids.{doing_goal, with_constraint}
 use Rattle.ale_engine.specs.Engine.{answers, goes}
 use Rattle.ale_logic.specs.Visits.{kids, stay, stay_after, Owed, owed, closed_at, Answer, visit_item, visit_owed, visit_of, visit}
 use Rattle.ale_logic.specs.Satisfaction.{Sense, HoldItems, Satisfies, Agrees}
-use Rattle.ale_logic.specs.WellFormed.{scope_of, FitsItem, FitItems, IsState, IsPlainItem, IsQuietItem, Each, ArePlainItems, AreQuietItems, IsSaidOnce, times_sought, times_found}
+use Rattle.ale_logic.specs.WellFormed.{scope_of, FitsItem, FitItems, IsState, IsPlainItem, IsQuietItem, Each, ArePlainItems, AreQuietItems, IsSaidOnce, times_sought}
 use Rattle.ale_logic.specs.Steps.{IsGrammar, IsAccounted, SatisfiesBefore, SatisfiesOne, IsKid, IsAnswerOf, IsVisitKid, StepLaw, IsInFragment, LogicLaw, StepLaws, LogicLaws}
 use Rattle.ale_step_law.proofs.Closures.{fulfils_given, value_below, value_holds, value_there}
 use Rattle.ale_step_law.proofs.Wider.{wider_on, item_wider}
 use Rattle.ale_step_law.proofs.Growing.{Goes, chosen_state, closed_wider, closed_goes}
 use Rattle.ale_step_law.proofs.Senses.{with_assignment, var_new}
-use Rattle.ale_step_law.proofs.Agreeing.{agrees_self, sat_agrees}
+use Rattle.ale_step_law.proofs.Agreeing.{sat_agrees}
 use Rattle.ale_step_law.proofs.Carrying.{doing_down, doing_up, env_down, env_up, imposing_down, imposing_up, chosen_down, chosen_up, agrees_assignment}
-use Rattle.ale_step_law.proofs.Every.{Every, every_one, one_new}
+use Rattle.ale_step_law.proofs.Every.{every_one, one_new}
 use Rattle.ale_step_law.proofs.On.{constraint_on, kids_on}
 use Rattle.ale_step_law.proofs.Follows.{Follows, tally, constraint_follows, kids_follow}
 use Rattle.ale_step_law.proofs.Owing.{IsOwed, owed_is, nothing_owed}
@@ -183,7 +182,7 @@ module _ (closes : ClosureLaw) (gr : Grammar) (waiting : ℕ) (st : State) (gram
           let on_kid = every_one (Goes gr.signature base) (with_constraint waiting o.class o.number o.constraint base) (constraint_on gr.signature grammar.lawful base g.is waiting o.class o.number o.constraint w.is_owed.below (grammar.program.constraints o.constraint w.is_owed.has)) r.state r.has in
           let f = every_one (Follows gr base idle) (with_constraint waiting o.class o.number o.constraint base) (constraint_follows gr base waiting o.class o.number o.constraint w.is_owed.has) r.state r.has in
           subst (IsKid gr st) (sym r.is)
-            (kid_of gr st r.state r.number (goes_on gr.signature st base r.state g on_kid) (once_of gr st base r.state idle (λ g. omega arith) refl f) (λ q. f.quiet tt q))
+          (kid_of gr st r.state r.number (goes_on gr.signature st base r.state g on_kid) (once_of gr st base r.state idle (λ g. omega arith) refl f) (λ q. f.quiet tt q))
       go (inr (inr w)) =
           let base : State = closed_at w.closed w.others st in
           let r = numbered_from 0 (kids gr waiting w.closed w.item base) kid (subst (λ z. Has z kid) w.kids_are v.has) in
@@ -192,9 +191,9 @@ module _ (closes : ClosureLaw) (gr : Grammar) (waiting : ℕ) (st : State) (gram
           let on_kid = kids_on gr grammar.lawful grammar.program grammar.words waiting w.closed base g.is (λ n f m e. value_below gr.signature st.facts st.next w.closed w.closure (class_of w.closed n) f m e) w.item fits r.state r.has in
           let f = kids_follow gr base g.is waiting w.closed w.item fits r.state r.has in
           subst (IsKid gr st) (sym r.is)
-            (kid_of gr st r.state r.number (goes_on gr.signature st base r.state g on_kid)
-              (once_of gr st base r.state w.item (λ g. let a : sum_over (times_sought g) st.agenda ≡ times_sought g w.item + sum_over (times_sought g) w.others = ap (sum_over (times_sought g)) w.agenda in omega (arith, a)) refl f)
-              (λ q. let p = subst (Each IsQuietItem) w.agenda q in f.quiet p.0 p.1))
+          (kid_of gr st r.state r.number (goes_on gr.signature st base r.state g on_kid)
+          (once_of gr st base r.state w.item (λ g. let a : sum_over (times_sought g) st.agenda ≡ times_sought g w.item + sum_over (times_sought g) w.others = ap (sum_over (times_sought g)) w.agenda in omega (arith, a)) refl f)
+          (λ q. let p = subst (Each IsQuietItem) w.agenda q in f.quiet p.0 p.1))
 
   -- a state at its closure is satisfied in a sense that goes on
   record IsClosedSense (c : Closed) (s : Structure) (x : Sense) (remain : List Element) : Type 0 where
@@ -214,9 +213,9 @@ module _ (closes : ClosureLaw) (gr : Grammar) (waiting : ℕ) (st : State) (gram
         agrees = agrees;
         satisfies = record { fulfils = u.extension.fulfils; nodes = q.nodes; is_bound = q.is_bound; is_said = q.is_said; items = q.items };
         takes = λ a low t above.
-          let node = k.fulfils.into a low in
-          let type = u.morphism.is.types (node_of c a) node in
-          subst (λ z. Above gr.signature t (type_of s z)) (u.takes a low) (grammar.lawful.along t (type_of c.graph (node_of c a)) (type_of s (u.morphism.map (node_of c a))) above type);
+            let node = k.fulfils.into a low in
+            let type = u.morphism.is.types (node_of c a) node in
+            subst (λ z. Above gr.signature t (type_of s z)) (u.takes a low) (grammar.lawful.along t (type_of c.graph (node_of c a)) (type_of s (u.morphism.map (node_of c a))) above type);
       }
 
   -- from one of the closed state's kids to one of the state's
@@ -258,7 +257,7 @@ module _ (closes : ClosureLaw) (gr : Grammar) (waiting : ℕ) (st : State) (gram
       go None d = doing_up gr s remain z (on n (holds (length base.envs) c.desc)) (imposing n k (with_env c.slots base)) tt here inner
       go (Some g) d =
           doing_up gr s remain z (on n (holds (length base.envs) c.desc)) (doing (derive (length base.envs) waiting g) (imposing n k (with_env c.slots base))) tt here
-            (doing_up gr s remain z (derive (length base.envs) waiting g) (imposing n k (with_env c.slots base)) tt (subst (λ a. Derivable gr.signature gr.program s a g) (sym new) d) inner)
+          (doing_up gr s remain z (derive (length base.envs) waiting g) (imposing n k (with_env c.slots base)) tt (subst (λ a. Derivable gr.signature gr.program s a g) (sym new) d) inner)
 
   up : (n : ℕ) (ks : List State) → goes n ks ≡ visit gr waiting st → (s : Structure) (x : Sense) (remain : List Element) → IsModel gr.signature gr.program s → Satisfies gr s x st remain → SatisfiesOne gr s st x remain ks
   up n ks e s x remain model sat = go (way_of closes gr waiting st grammar.lawful is n ks e)
@@ -273,7 +272,7 @@ module _ (closes : ClosureLaw) (gr : Grammar) (waiting : ℕ) (st : State) (gram
           let inside = y.satisfies.fulfils.into o.class w.is_owed.below in
           let meets = model.meets (y.sense.node o.class) o.number o.constraint inside w.is_owed.numbered (y.takes o.class w.is_owed.below o.constraint.of w.is_owed.above) in
           one_on w.closed w.closure st.agenda s y.sense x remain (with_constraint waiting o.class o.number o.constraint base ∷ []) ks w.kids_are y.agrees
-            (constraint_up base g.is o.class o.number o.constraint s y.sense remain meets y.satisfies)
+          (constraint_up base g.is o.class o.number o.constraint s y.sense remain meets y.satisfies)
       go (inr (inr w)) =
           let y = closed_sense w.closed w.closure s x remain model.structure sat in
           let base : State = closed_at w.closed w.others st in
@@ -287,9 +286,9 @@ module _ (closes : ClosureLaw) (gr : Grammar) (waiting : ℕ) (st : State) (gram
             items = subst (λ z. HoldItems gr s y.sense z st.rest remain) w.agenda y.satisfies.items;
           } in
           one_on w.closed w.closure w.others s y.sense x remain (kids gr waiting w.closed w.item base) ks w.kids_are y.agrees
-            (kids_up gr grammar.words grammar.program.rules waiting w.closed s y.sense remain base grammar.lawful model.structure g.is
-              (λ n f low known there. value_there gr.signature st.facts st.next w.closed w.closure grammar.lawful n f there.0 low known there.1 there.2)
-              (λ n f m e. value_holds gr.signature st.facts st.next w.closed w.closure s y.sense.node y.satisfies.fulfils.holds n f m e) w.item fits all)
+          (kids_up gr grammar.words grammar.program.rules waiting w.closed s y.sense remain base grammar.lawful model.structure g.is
+          (λ n f low known there. value_there gr.signature st.facts st.next w.closed w.closure grammar.lawful n f there.0 low known there.1 there.2)
+          (λ n f m e. value_holds gr.signature st.facts st.next w.closed w.closure s y.sense.node y.satisfies.fulfils.holds n f m e) w.item fits all)
 
   step_law_of : StepLaw gr waiting st
   step_law_of = record {
@@ -320,7 +319,7 @@ module _ (closes : ClosureLaw) (gr : Grammar) (waiting : ℕ) (st : State) (gram
             subst (λ (z : State). ArePlainItems z.agenda) (sym r.is) (f.plain inside.program p.0 p.1)
 
     constraint_down : (base : State) (n k : ℕ) (c : Constraint) → Has gr.program.constraints c → (s : Structure) (x : Sense) (remain : List Element) → ((d : Constraint) → constraint_at gr.program k ≡ Some d → d ≡ c) → Satisfies gr s x (with_constraint waiting n k c base) remain →
-      Satisfies gr s x base remain × MeetsAt gr.signature gr.program s k (x.node n)
+        Satisfies gr s x base remain × MeetsAt gr.signature gr.program s k (x.node n)
     constraint_down base n k c has s x remain only sat = go c.goal sat (λ d. d)
       where
         e : ℕ
@@ -330,14 +329,14 @@ module _ (closes : ClosureLaw) (gr : Grammar) (waiting : ℕ) (st : State) (gram
         three = imposing n k (with_env c.slots base)
 
         meets : (o : Option Goal) → (Derivable gr.signature gr.program s (x.var (length base.envs)) (goal_of o) → Derivable gr.signature gr.program s (x.var (length base.envs)) (goal_of c.goal)) → Satisfies gr s x (imposing n k (with_env c.slots base)) remain → HoldsAt gr.signature s (x.var (length base.envs)) c.desc (x.node n) → Derivable gr.signature gr.program s (x.var (length base.envs)) (goal_of o) →
-          Satisfies gr s x base remain × MeetsAt gr.signature gr.program s k (x.node n)
+            Satisfies gr s x base remain × MeetsAt gr.signature gr.program s k (x.node n)
         meets o is_goal inner here d =
             let last = env_down gr s remain x c.slots base (imposing_down gr s remain x n k (with_env c.slots base) inner) in
             let met : MeetsConstraint gr.signature gr.program s c (x.node n) = record { assign = x.var (length base.envs); nodes = last.nodes (length base.envs); holds = here; derived = is_goal d } in
             (last, λ d q. subst (λ z. MeetsConstraint gr.signature gr.program s z (x.node n)) (sym (only d q)) met)
 
         go : (o : Option Goal) → Satisfies gr s x (doing (on n (holds (length base.envs) c.desc)) (doing_goal (length base.envs) waiting o (imposing n k (with_env c.slots base)))) remain → (Derivable gr.signature gr.program s (x.var (length base.envs)) (goal_of o) → Derivable gr.signature gr.program s (x.var (length base.envs)) (goal_of c.goal)) →
-          Satisfies gr s x base remain × MeetsAt gr.signature gr.program s k (x.node n)
+            Satisfies gr s x base remain × MeetsAt gr.signature gr.program s k (x.node n)
         go None p is_goal =
             let r = doing_down gr s remain x (on n (holds (length base.envs) c.desc)) (imposing n k (with_env c.slots base)) tt p in
             meets None is_goal r.1 r.0 (0, tt)
@@ -383,7 +382,7 @@ module _ (closes : ClosureLaw) (gr : Grammar) (waiting : ℕ) (st : State) (gram
             let kid_sat : Satisfies gr s x r.state remain = chosen_down gr s remain x r.number r.state (subst (λ z. Satisfies gr s x z remain) r.is sat) in
             let p = subst (Each IsPlainItem) w.agenda inside.items in
             let q = kids_back gr grammar.words grammar.program.rules waiting w.closed s x remain base
-              (λ n f m e base_sat. value_holds gr.signature st.facts st.next w.closed w.closure s x.node base_sat.fulfils.holds n f m e) w.item (base_fit w.closed w.closure w.item w.others w.agenda) p.0 r.state r.has kid_sat in
+            (λ n f m e base_sat. value_holds gr.signature st.facts st.next w.closed w.closure s x.node base_sat.fulfils.holds n f m e) w.item (base_fit w.closed w.closure w.item w.others w.agenda) p.0 r.state r.has kid_sat in
             record {
               satisfies = record {
                 fulfils = fulfils_given gr.signature st.facts st.next w.closed w.closure s x.node q.satisfies.fulfils;

@@ -1,10 +1,10 @@
 -- What is owed at a closure: a constraint above the type of a class; and what it means that nothing is.
-use Rattle.std.proofs.Common.{◌≡◌, ℕ, zero, suc, ◌+◌, ◌<◌, ◌≤◌, Bool, true, false, ◌&&◌, ◌||◌, not, eqb, cond, if◌then◌else◌, List, [], ◌∷◌, ◌++◌, get_or, map, ◌⊎◌, inl, inr, refl, sym, ap, ◌∙◌, subst, arith, Option, Some, None}
+use Rattle.std.proofs.Common.{◌≡◌, ℕ, zero, suc, ◌+◌, ◌<◌, Bool, true, false, ◌&&◌, ◌||◌, not, eqb, if◌then◌else◌, List, [], ◌∷◌, ◌++◌, get_or, map, ◌⊎◌, inl, inr, refl, sym, ap, ◌∙◌, subst, arith, Option, Some, None}
 use Rattle.std.proofs.lemmas.Bool.{and_parts, eqb-true, eq-eqb}
 use Rattle.ale_declared.specs.Lists.{Has}
 use Rattle.ale_hierarchy.specs.Hierarchy.{Hierarchy, Above}
 use Rattle.ale_graph.specs.declared.closed.Closed.{Closed}
-use Rattle.ale_graph.specs.Structures.{count, type_of}
+use Rattle.ale_graph.specs.Structures.{type_of}
 use Rattle.ale_graph.specs.Closure.{class_of, node_of, place, classes_below}
 use Rattle.ale_graph.specs.Universal.{IsClosure}
 use Rattle.ale_graph.proofs.Lists.{has_left, has_right, has_either, some_one, none_some}
@@ -13,7 +13,7 @@ use Rattle.ale_logic.specs.Programs.{Constraint}
 use Rattle.ale_logic.specs.Models.{constraint_at}
 use Rattle.ale_logic.specs.Words.{Grammar}
 use Rattle.ale_logic.specs.States.{State}
-use Rattle.ale_logic.specs.Visits.{is_imposed, Owed, owed_by, owed, Answer}
+use Rattle.ale_logic.specs.Visits.{is_imposed, Owed, owed_by, owed}
 use Rattle.ale_logic.specs.Steps.{IsAllImposed}
 
 below_from : (class : ℕ → ℕ) (n a : ℕ) → Has (classes_below class n) a → a < n
@@ -66,11 +66,11 @@ module _ (h : Hierarchy) (c : Closed) (imposed : List (ℕ × ℕ)) (a : ℕ) wh
   owed_by_is k (x ∷ xs) o e = go (owed_by_is (suc k) xs o) (h.is_above x.of (type_of c.graph (node_of c a)) && not (is_imposed (class_of c) imposed a k)) refl e
     where
       go : (owed_by h c imposed a (suc k) xs ≡ Some o → IsOwedBy h c a (suc k) xs o) → (b : Bool) → (h.is_above x.of (type_of c.graph (node_of c a)) && not (is_imposed (class_of c) imposed a k)) ≡ b →
-        (if b then Some (record { class = a; number = k; constraint = x }) else owed_by h c imposed a (suc k) xs) ≡ Some o → IsOwedBy h c a k (x ∷ xs) o
+          (if b then Some (record { class = a; number = k; constraint = x }) else owed_by h c imposed a (suc k) xs) ≡ Some o → IsOwedBy h c a k (x ∷ xs) o
       go ih true t q =
           let here : record { class = a; number = k; constraint = x } ≡ o = some_one q in
           subst (λ (z : Owed). IsOwedBy h c a k (x ∷ xs) z) here
-            (record { class = refl; number = 0; is = omega arith; numbered = refl; has = inl refl; above = (and_parts (h.is_above x.of (type_of c.graph (node_of c a))) (not (is_imposed (class_of c) imposed a k)) t).0 })
+          (record { class = refl; number = 0; is = omega arith; numbered = refl; has = inl refl; above = (and_parts (h.is_above x.of (type_of c.graph (node_of c a))) (not (is_imposed (class_of c) imposed a k)) t).0 })
       go ih false t q =
           let r = ih q in
           let is = r.is in
@@ -91,8 +91,8 @@ module _ (h : Hierarchy) (c : Closed) (imposed : List (ℕ × ℕ)) (a : ℕ) wh
       here false given t u = absurd cc
 
       go : (owed_by h c imposed a (suc k) ys ≡ None → (i : ℕ) (z : Constraint) → at_number ys i ≡ Some z → Above h z.of (type_of c.graph (node_of c a)) → is_imposed (class_of c) imposed a (suc k + i) ≡ true) →
-        (b : Bool) → (h.is_above y.of (type_of c.graph (node_of c a)) && not (is_imposed (class_of c) imposed a k)) ≡ b →
-        (if b then Some (record { class = a; number = k; constraint = y }) else owed_by h c imposed a (suc k) ys) ≡ None → (i : ℕ) → at_number (y ∷ ys) i ≡ Some x → is_imposed (class_of c) imposed a (k + i) ≡ true
+          (b : Bool) → (h.is_above y.of (type_of c.graph (node_of c a)) && not (is_imposed (class_of c) imposed a k)) ≡ b →
+          (if b then Some (record { class = a; number = k; constraint = y }) else owed_by h c imposed a (suc k) ys) ≡ None → (i : ℕ) → at_number (y ∷ ys) i ≡ Some x → is_imposed (class_of c) imposed a (k + i) ≡ true
       go ih true t q i num = absurd (none_some (sym q))
       go ih false t q zero num =
           let same : y ≡ x = some_one num in

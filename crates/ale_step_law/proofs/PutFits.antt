@@ -1,13 +1,13 @@
 -- A kept structure put among a state's nodes: its facts fit, it gives a state, and it goes by a morphism where it is
 -- satisfied.
-use Rattle.std.proofs.Common.{◌≡◌, ℕ, zero, suc, ◌+◌, ◌-◌, ◌<◌, ◌≤◌, true, ◌&&◌, ltb, IsTrue, List, [], ◌∷◌, ◌++◌, length, map, get_or, ◌⊎◌, inl, inr, refl, sym, ap, ◌∙◌, subst, arith, Option, Some, None}
+use Rattle.std.proofs.Common.{◌≡◌, ℕ, suc, ◌+◌, ◌<◌, ◌≤◌, true, ◌&&◌, ltb, List, [], ◌∷◌, ◌++◌, length, map, get_or, ◌⊎◌, inl, inr, refl, sym, ap, ◌∙◌, subst, arith, Some}
 use Rattle.std.proofs.Math.Path.{fun_ext}
 use Rattle.std.proofs.lemmas.Bool.{and_parts, ltb-true}
 use Rattle.std.proofs.lemmas.List.{append_assoc}
 use Rattle.ale_declared.specs.Lists.{Has, every}
 use Rattle.ale_hierarchy.specs.Hierarchy.{Hierarchy, IsLawful}
 use Rattle.ale_graph.specs.declared.fact.Fact.{Fact}
-use Rattle.ale_graph.specs.declared.fact.Fact.TheVariants.{OfType, Value, Differ}
+use Rattle.ale_graph.specs.declared.fact.Fact.TheVariants.{OfType}
 use Rattle.ale_graph.specs.declared.node.Node.{Node}
 use Rattle.ale_graph.specs.Structures.{Structure, IsStructure, count, type_of, value_in, value_of, is_rising, is_node, is_root}
 use Rattle.ale_graph.specs.Facts.{Fits, FitsFact, HoldsFact}
@@ -21,9 +21,9 @@ use Rattle.ale_logic.specs.Satisfaction.{Sense, Satisfies}
 use Rattle.ale_logic.specs.WellFormed.{scope_of, IsState}
 use Rattle.ale_extension_law.proofs.Puts.{past, value_there, put_law}
 use Rattle.ale_step_law.proofs.Wider.{Wider, wider_on, fact_wider}
-use Rattle.ale_step_law.proofs.Growing.{Goes, Widened, widened}
-use Rattle.ale_step_law.proofs.Senses.{shift, shift_new, with_nodes}
-use Rattle.ale_step_law.proofs.Carrying.{grown_up, agrees_nodes}
+use Rattle.ale_step_law.proofs.Growing.{Goes, widened}
+use Rattle.ale_step_law.proofs.Senses.{shift_new, with_nodes}
+use Rattle.ale_step_law.proofs.Carrying.{grown_up}
 
 -- an element of a list has a place
 at_place : {A : Type 0} (d : A) (xs : List A) (x : A) → Has xs x → (j : ℕ) × (j < length xs) × (get_or xs j d ≡ x)
@@ -51,10 +51,10 @@ module _ (h : Hierarchy) (law : IsLawful h) (g : Structure) (str : IsStructure h
       record {
         type = subst (λ (y : Node). y.of < h.types) place.2 (str.total.types j place.1);
         values = λ v there.
-          let there_in : value_in x.values v.0 ≡ Some v.1 = value_there 0 h g (λ n. n) x.values both.1 v there in
-          let told : value_of g j v.0 ≡ Some v.1 = subst (λ (y : Node). value_in y.values v.0 ≡ Some v.1) (sym place.2) there_in in
-          let r = str.total.only j v.0 v.1 told in
-          ((law.approp_inside v.0 (type_of g j) r.0 r.1).0, ltb-true v.1 (count g) (every_has (λ (v : ℕ × ℕ). ltb v.1 (count g)) x.values v both.0 there));
+            let there_in : value_in x.values v.0 ≡ Some v.1 = value_there 0 h g (λ n. n) x.values both.1 v there in
+            let told : value_of g j v.0 ≡ Some v.1 = subst (λ (y : Node). value_in y.values v.0 ≡ Some v.1) (sym place.2) there_in in
+            let r = str.total.only j v.0 v.1 told in
+            ((law.approp_inside v.0 (type_of g j) r.0 r.1).0, ltb-true v.1 (count g) (every_has (λ (v : ℕ × ℕ). ltb v.1 (count g)) x.values v both.0 there));
       }
 
   module _ (by top : ℕ) (inside : by + count g ≤ top) where
@@ -134,16 +134,16 @@ goes_putting h a b law k kept root is =
 
 module _ (gr : Grammar) (s : Structure) (remain : List Element) where
   pub put_down : (x : Sense) (kept : Kept) (st : State) → Satisfies gr s x (putting kept st) remain → IsMorphismAside gr.signature kept.graph s (λ n. x.node (st.next + n)) × Satisfies gr s x st remain
-  put_down x kept st p =
-      (
-        (put_law gr.signature s x.node st.next kept.graph).down (λ n low. p.fulfils.into (st.next + n) (omega arith)) (λ y there. p.fulfils.holds y (has_right st.facts (graph_facts st.next kept.graph) y there)),
-        record {
-          fulfils = record { into = λ a low. p.fulfils.into a (omega arith); holds = λ y there. p.fulfils.holds y (has_left st.facts (graph_facts st.next kept.graph) y there) };
-          nodes = p.nodes;
-          is_bound = p.is_bound;
-          is_said = p.is_said;
-          items = p.items;
-        })
+  put_down x kept st p = (
+    (put_law gr.signature s x.node st.next kept.graph).down (λ n low. p.fulfils.into (st.next + n) (omega arith)) (λ y there. p.fulfils.holds y (has_right st.facts (graph_facts st.next kept.graph) y there)),
+    record {
+      fulfils = record { into = λ a low. p.fulfils.into a (omega arith); holds = λ y there. p.fulfils.holds y (has_left st.facts (graph_facts st.next kept.graph) y there) };
+      nodes = p.nodes;
+      is_bound = p.is_bound;
+      is_said = p.is_said;
+      items = p.items;
+    },
+  )
 
   pub put_up : (x : Sense) (kept : Kept) (root : ℕ) (map : ℕ → ℕ) (st : State) → IsKept gr.signature kept root → IsState gr.signature st → IsMorphismAside gr.signature kept.graph s map → Satisfies gr s x st remain → Satisfies gr s (with_nodes x st.next map) (putting kept st) remain
   put_up x kept root map st k is m p = record {

@@ -1,5 +1,5 @@
 -- Senses that go on: with new nodes, a new environment, new phrases; each agrees with the one before on what there was.
-use Rattle.std.proofs.Common.{◌≡◌, ℕ, ◌+◌, ◌-◌, ◌<◌, ◌≤◌, Bool, true, false, eqb, ltb, if◌then◌else◌, List, length, refl, sym, ap, ◌∙◌, arith, cond}
+use Rattle.std.proofs.Common.{◌≡◌, ℕ, ◌+◌, ◌-◌, ◌<◌, Bool, true, false, eqb, ltb, if◌then◌else◌, List, refl, ap, ◌∙◌, arith, cond}
 use Rattle.std.proofs.lemmas.Bool.{eqb-true, eq-eqb, ltb-true, lt-ltb}
 use Rattle.ale_logic.specs.Programs.{Word}
 use Rattle.ale_logic.specs.Satisfaction.{Sense}

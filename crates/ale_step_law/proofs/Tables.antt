@@ -1,8 +1,8 @@
 -- The kids of each item both ways: what satisfies a kid of a plain item satisfies the state with the item, and what
 -- satisfies that satisfies a kid.
-use Rattle.std.proofs.Common.{◌≡◌, ℕ, ◌<◌, List, [], ◌∷◌, ◌⊎◌, inl, inr, refl, sym, ◌∙◌, subst, Option, Some, None}
+use Rattle.std.proofs.Common.{◌≡◌, ℕ, ◌<◌, List, ◌⊎◌, refl, sym, ◌∙◌, Some}
 use Rattle.ale_declared.specs.Lists.{Has}
-use Rattle.ale_hierarchy.specs.Hierarchy.{Above, IsLawful}
+use Rattle.ale_hierarchy.specs.Hierarchy.{IsLawful}
 use Rattle.ale_graph.specs.declared.closed.Closed.{Closed}
 use Rattle.ale_graph.specs.declared.fact.Fact.TheVariants.{OfType}
 use Rattle.ale_graph.specs.Structures.{Structure, IsStructure, value_of}
@@ -13,14 +13,14 @@ use Rattle.ale_logic.specs.Descriptions.{of_type, slot, at, all, any, differs, p
 use Rattle.ale_logic.specs.Programs.{Element, Rule, clauses_of}
 use Rattle.ale_logic.specs.Fitting.{FitsRule}
 use Rattle.ale_logic.specs.Words.{Entry, IsEntry, Grammar}
-use Rattle.ale_logic.specs.States.{Demand, holds, ends_with, leads, generates, generates_all, Item, on, take, derive, called, cuts, stop, split, pivot, connect, bound, State, told, doing, doing_all}
+use Rattle.ale_logic.specs.States.{holds, ends_with, leads, generates, generates_all, Item, on, take, derive, called, cuts, stop, split, pivot, connect, bound, State, told, doing, doing_all}
 use Rattle.ale_logic.specs.DescriptionKids.{stepping, leading, equating_paths, binding, items_at, differing}
 use Rattle.ale_logic.specs.Visits.{kids}
 use Rattle.ale_logic.specs.Satisfaction.{Sense, Satisfies}
 use Rattle.ale_logic.specs.WellFormed.{scope_of, FitsItem, IsPlainItem, IsState, IsToldOf}
 use Rattle.ale_logic.specs.Steps.{SatisfiesOne}
 use Rattle.ale_step_law.proofs.Carrying.{told_down, doing_down}
-use Rattle.ale_step_law.proofs.Every.{Every, every_none, every_one}
+use Rattle.ale_step_law.proofs.Every.{Every, every_one}
 use Rattle.ale_step_law.proofs.Down.{IsBack, back, equating_back, leading_back, binding_back, alternatives_back, differing_back, taken_back, all_back, goal_back, clauses_back, split_back, stepping_back}
 use Rattle.ale_step_law.proofs.Up.{type_one, stepping_one, leading_one, equating_one, binding_one, all_one, any_one, differing_one, taken_one, goal_one, clauses_one, split_one}
 use Rattle.ale_step_law.proofs.GeneratorDown.{generate_back, list_back, pivot_back, connect_back}
@@ -30,7 +30,7 @@ module _ (gr : Grammar) (words : (e : Entry) → Has gr.words.entries e ⊎ Has 
   pub kids_back : ((n f m : ℕ) → class_value (class_of c) c.facts (class_of c n) f ≡ Some m → Satisfies gr s x st remain → value_of s (x.node n) f ≡ Some (x.node m)) → (i : Item) → FitsItem gr.signature (scope_of st) i → IsPlainItem i → Every (IsBack gr s x remain st i) (kids gr waiting c i st)
   kids_back value (on n (holds e (of_type t))) fit plain =
       every_one (IsBack gr s x remain st (on n (holds e (of_type t)))) (told (OfType n t) st)
-        (λ sat. let r = told_down gr s remain x (OfType n t) st sat in back gr s x remain st (on n (holds e (of_type t))) tt r.0 r.1)
+      (λ sat. let r = told_down gr s remain x (OfType n t) st sat in back gr s x remain st (on n (holds e (of_type t))) tt r.0 r.1)
   kids_back value (on n (holds e (slot v))) fit plain =
       every_one (IsBack gr s x remain st (on n (holds e (slot v)))) (binding e v n (bound st.envs e v) st) (binding_back gr s x remain st e v n fit.1.0 fit.1.1 (bound st.envs e v) refl)
   kids_back value (on n (holds e (at f d))) fit plain =
@@ -56,8 +56,8 @@ module _ (gr : Grammar) (words : (e : Entry) → Has gr.words.entries e ⊎ Has 
   kids_back value (connect p us t) fit plain = connect_back gr s x remain st waiting p us t rules
 
   pub kids_up : IsLawful gr.signature → IsStructure gr.signature s → IsState gr.signature st → ((n f : ℕ) → n < st.next → f < gr.signature.features → IsToldOf gr.signature (scope_of st) n f → (m : ℕ) × (class_value (class_of c) c.facts (class_of c n) f ≡ Some m)) →
-    ((n f m : ℕ) → class_value (class_of c) c.facts (class_of c n) f ≡ Some m → value_of s (x.node n) f ≡ Some (x.node m)) →
-    (i : Item) → FitsItem gr.signature (scope_of st) i → Satisfies gr s x (doing i st) remain → SatisfiesOne gr s st x remain (kids gr waiting c i st)
+      ((n f m : ℕ) → class_value (class_of c) c.facts (class_of c n) f ≡ Some m → value_of s (x.node n) f ≡ Some (x.node m)) →
+      (i : Item) → FitsItem gr.signature (scope_of st) i → Satisfies gr s x (doing i st) remain → SatisfiesOne gr s st x remain (kids gr waiting c i st)
   kids_up law str is there value (on n (holds e (of_type t))) fit sat =
       let r = doing_down gr s remain x (on n (holds e (of_type t))) st tt sat in type_one gr law s str x remain st is r.1 n t r.0
   kids_up law str is there value (on n (holds e (slot v))) fit sat =

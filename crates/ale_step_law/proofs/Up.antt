@@ -1,23 +1,23 @@
 -- Upwards: what satisfies the state with a description's or a goal's item satisfies one of its kids.
-use Rattle.std.proofs.Common.{◌≡◌, ◌≢◌, ℕ, zero, suc, ◌+◌, ◌-◌, ◌<◌, ◌≤◌, List, [], ◌∷◌, ◌++◌, length, map, get_or, ◌⊎◌, inl, inr, refl, sym, ap, ◌∙◌, subst, arith, Option, Some, None}
+use Rattle.std.proofs.Common.{◌≡◌, ◌≢◌, ℕ, zero, suc, ◌+◌, ◌<◌, List, [], ◌∷◌, length, map, get_or, inl, inr, refl, sym, ap, ◌∙◌, subst, arith, Option, Some, None}
 use Rattle.ale_declared.specs.Lists.{Has}
 use Rattle.ale_hierarchy.specs.Hierarchy.{Hierarchy, Above, IsLawful}
-use Rattle.ale_graph.specs.declared.fact.Fact.TheVariants.{OfType, Value, Same, Differ}
-use Rattle.ale_graph.specs.Structures.{Structure, IsStructure, count, type_of, value_of}
+use Rattle.ale_graph.specs.declared.fact.Fact.TheVariants.{OfType, Same, Differ}
+use Rattle.ale_graph.specs.Structures.{Structure, IsStructure, count, type_of}
 use Rattle.ale_logic.specs.Descriptions.{Description, Descriptions, none, more, how_many, LeadsTo, EndTogether, HoldsAt, AllHoldAt, SomeHoldsAt, IsAssignment}
 use Rattle.ale_logic.specs.Goals.{Goal, Goals, yes, cut, each, either, equal, call, unless, if_else, once, no_goal, and_goal}
-use Rattle.ale_logic.specs.Programs.{Element, member, tail, Clause, ListTypes, clauses_of}
+use Rattle.ale_logic.specs.Programs.{Element, Clause, ListTypes, clauses_of}
 use Rattle.ale_logic.specs.ListNodes.{IsEmptyListOf, IsNonEmptyListOf}
-use Rattle.ale_logic.specs.Derivations.{HoldEach, AreCalled, EachDerivableBy, OneDerivableBy, ByClause, Calls, Derivable, DerivableAt}
+use Rattle.ale_logic.specs.Derivations.{HoldEach, AreCalled, EachDerivableBy, OneDerivableBy, Calls, Derivable, DerivableAt}
 use Rattle.ale_logic.specs.Words.{Grammar}
-use Rattle.ale_logic.specs.States.{Demand, holds, ends_with, leads, Item, on, take, derive, called, split, bound, env_at, State, told, doing, doing_all, grown, with_env, bind, remaining}
+use Rattle.ale_logic.specs.States.{Demand, holds, ends_with, leads, on, take, derive, called, split, bound, env_at, State, told, doing, doing_all, grown, with_env, bind, remaining}
 use Rattle.ale_logic.specs.DescriptionKids.{stepping, leading, equating_paths, binding, items_at, alternatives, differing, taken}
 use Rattle.ale_logic.specs.GoalKids.{numbers, items_each, goals, goal_alternatives, equating, calling, goal_kids, by_clause, clause_kids}
 use Rattle.ale_logic.specs.GenerationKids.{ending, split_kids}
-use Rattle.ale_logic.specs.Satisfaction.{Sense, HoldsEnd, HoldsDemand, HoldsItem, HoldItems, Satisfies, Agrees}
+use Rattle.ale_logic.specs.Satisfaction.{Sense, HoldsEnd, HoldsDemand, HoldsItem, HoldItems, Satisfies}
 use Rattle.ale_logic.specs.WellFormed.{Each, IsState}
 use Rattle.ale_logic.specs.Steps.{SatisfiesOne}
-use Rattle.ale_step_law.proofs.Senses.{shift, shift_old, shift_new, shift_first, with_nodes, with_assignment, var_new}
+use Rattle.ale_step_law.proofs.Senses.{shift_old, shift_new, shift_first, with_nodes, with_assignment, var_new}
 use Rattle.ale_step_law.proofs.Carrying.{told_up, doing_up, doing_all_up, grown_up, env_up, bind_up, agrees_nodes, agrees_assignment}
 use Rattle.ale_step_law.proofs.Every.{one_first, one_later, one_new}
 use Rattle.ale_step_law.proofs.Down.{whole_at, whole_each, whole_goals}
@@ -99,12 +99,12 @@ module _ (gr : Grammar) (law : IsLawful gr.signature) (s : Structure) (str : IsS
       let grow = grown_up gr s remain x 1 (λ i. m) st is (λ i q. inside) sat in
       let second = doing_up gr s remain y (on st.next (holds e d)) (grown 1 st) tt (subst (HoldsAt gr.signature s (x.var e) d) (sym new) p) grow in
       one_new gr s st x remain y (differing e n d st) [] (agrees_nodes gr s remain x st (λ i. m))
-        (told_up gr s remain y (Differ n st.next) (doing (on st.next (holds e d)) (grown 1 st)) (λ same. far (sym old ∙ same ∙ new)) second)
+      (told_up gr s remain y (Differ n st.next) (doing (on st.next (holds e d)) (grown 1 st)) (λ same. far (sym old ∙ same ∙ new)) second)
 
   pub taken_one : (d : Demand) (o : Option ℕ) (k m : ℕ) → o ≡ Some k → x.node k ≡ m → HoldsDemand gr s x d m → SatisfiesOne gr s st x remain (taken d o st)
   taken_one d o k m e are p =
       subst (λ z. SatisfiesOne gr s st x remain (taken d z st)) (sym e)
-        (one_first gr s st x remain (doing (on k d) st) [] (doing_up gr s remain x (on k d) st tt (subst (HoldsDemand gr s x d) (sym are) p) sat))
+      (one_first gr s st x remain (doing (on k d) st) [] (doing_up gr s remain x (on k d) st tt (subst (HoldsDemand gr s x d) (sym are) p) sat))
 
   -- goals
   goals_up : (depth e c : ℕ) (gs : Goals) → EachDerivableBy gr.signature s (Calls gr.signature gr.program s depth) (x.var e) gs → Each (HoldsItem gr s x) (goals e c gs)
@@ -124,14 +124,14 @@ module _ (gr : Grammar) (law : IsLawful gr.signature) (s : Structure) (str : IsS
       let grow = grown_up gr s remain x 1 (λ i. m) st is (λ i z. inside) sat in
       let second = doing_up gr s remain y (on st.next (holds e d')) (grown 1 st) tt (subst (HoldsAt gr.signature s (x.var e) d') (sym new) q) grow in
       one_new gr s st x remain y (equating e d d' st) [] (agrees_nodes gr s remain x st (λ i. m))
-        (doing_up gr s remain y (on st.next (holds e d)) (doing (on st.next (holds e d')) (grown 1 st)) tt (subst (HoldsAt gr.signature s (x.var e) d) (sym new) p) second)
+      (doing_up gr s remain y (on st.next (holds e d)) (doing (on st.next (holds e d')) (grown 1 st)) tt (subst (HoldsAt gr.signature s (x.var e) d) (sym new) p) second)
 
   call_one : (depth e p : ℕ) (ds : Descriptions) → AreCalled gr.signature s (x.var e) ds (Calls gr.signature gr.program s depth p) → SatisfiesOne gr s st x remain (calling e p ds st ∷ [])
   call_one depth e p ds k =
       one_new gr s st x remain y (calling e p ds st) [] (agrees_nodes gr s remain x st f)
-        (doing_all_up gr s remain y (items_each e ds ns) (doing (called p ns) (grown (how_many ds) st)) (whole_each e ds ns)
-          (each_up gr s remain y e ds ns (subst (HoldEach gr.signature s (x.var e) ds) (sym are) k.hold))
-          (doing_up gr s remain y (called p ns) (grown (how_many ds) st) tt (depth, subst (Calls gr.signature gr.program s depth p) (sym are) k.called) grow))
+      (doing_all_up gr s remain y (items_each e ds ns) (doing (called p ns) (grown (how_many ds) st)) (whole_each e ds ns)
+      (each_up gr s remain y e ds ns (subst (HoldEach gr.signature s (x.var e) ds) (sym are) k.hold))
+      (doing_up gr s remain y (called p ns) (grown (how_many ds) st) tt (depth, subst (Calls gr.signature gr.program s depth p) (sym are) k.called) grow))
     where
       f : ℕ → ℕ
       f i = get_or k.nodes i 0
@@ -163,10 +163,10 @@ module _ (gr : Grammar) (law : IsLawful gr.signature) (s : Structure) (str : IsS
   clause_up : (waiting depth : ℕ) (ns : List ℕ) (clause : Clause) (assign : ℕ → ℕ) → IsAssignment s assign → HoldEach gr.signature s assign clause.args (map x.node ns) → DerivableAt gr.signature gr.program s depth assign clause.body → Satisfies gr s (with_assignment x (length st.envs) assign) (by_clause waiting ns clause st) remain
   clause_up waiting depth ns clause assign nodes args body =
       doing_all_up gr s remain y (items_each e clause.args ns) (doing (derive e waiting clause.body) (with_env clause.slots st)) (whole_each e clause.args ns)
-        (each_up gr s remain y e clause.args ns (subst (λ z. HoldEach gr.signature s z clause.args (map x.node ns)) (sym new) args))
-        (doing_up gr s remain y (derive e waiting clause.body) (with_env clause.slots st) tt
-          (depth, subst (λ z. DerivableAt gr.signature gr.program s depth z clause.body) (sym new) body)
-          (env_up gr s remain x clause.slots assign st is nodes sat))
+      (each_up gr s remain y e clause.args ns (subst (λ z. HoldEach gr.signature s z clause.args (map x.node ns)) (sym new) args))
+      (doing_up gr s remain y (derive e waiting clause.body) (with_env clause.slots st) tt
+      (depth, subst (λ z. DerivableAt gr.signature gr.program s depth z clause.body) (sym new) body)
+      (env_up gr s remain x clause.slots assign st is nodes sat))
     where
       e : ℕ
       e = length st.envs
@@ -181,7 +181,7 @@ module _ (gr : Grammar) (law : IsLawful gr.signature) (s : Structure) (str : IsS
   by_clause_one waiting depth ns [] clause has assign p = absurd has
   by_clause_one waiting depth ns (c ∷ cs) clause (inl e) assign p =
       one_new gr s st x remain (with_assignment x (length st.envs) assign) (by_clause waiting ns c st) (clause_kids waiting ns cs st) (agrees_assignment gr s remain x st assign)
-        (subst (λ z. Satisfies gr s (with_assignment x (length st.envs) assign) (by_clause waiting ns z st) remain) e p)
+      (subst (λ z. Satisfies gr s (with_assignment x (length st.envs) assign) (by_clause waiting ns z st) remain) e p)
   by_clause_one waiting depth ns (c ∷ cs) clause (inr e) assign p =
       one_later gr s st x remain (by_clause waiting ns c st) (clause_kids waiting ns cs st) (by_clause_one waiting depth ns cs clause e assign p)
 
@@ -206,9 +206,9 @@ split_one gr s x remain st lists are n end sat = go lists are sat.items
     go None e (inr p) = absurd (subst (λ z. IsNonEmptyListOf gr.signature z s (x.node n)) e p.0)
     go (Some l) e (inl p) =
         one_first gr s st x remain (told (OfType n l.e_list) (ending end st)) (told (OfType n l.ne_list) (remaining n st) ∷ [])
-          (told_up gr s remain x (OfType n l.e_list) (ending end st) (subst (λ z. IsEmptyListOf gr.signature z s (x.node n)) e p.0) (ending_up end p.1 (rest_of p.2)))
+        (told_up gr s remain x (OfType n l.e_list) (ending end st) (subst (λ z. IsEmptyListOf gr.signature z s (x.node n)) e p.0) (ending_up end p.1 (rest_of p.2)))
     go (Some l) e (inr p) =
         let kid : Satisfies gr s x (remaining n st) remain = record { fulfils = sat.fulfils; nodes = sat.nodes; is_bound = sat.is_bound; is_said = sat.is_said; items = p.1 } in
         one_later gr s st x remain (told (OfType n l.e_list) (ending end st)) (told (OfType n l.ne_list) (remaining n st) ∷ [])
-          (one_first gr s st x remain (told (OfType n l.ne_list) (remaining n st)) []
-            (told_up gr s remain x (OfType n l.ne_list) (remaining n st) (subst (λ z. IsNonEmptyListOf gr.signature z s (x.node n)) e p.0) kid))
+        (one_first gr s st x remain (told (OfType n l.ne_list) (remaining n st)) []
+        (told_up gr s remain x (OfType n l.ne_list) (remaining n st) (subst (λ z. IsNonEmptyListOf gr.signature z s (x.node n)) e p.0) kid))

@@ -1,5 +1,5 @@
 -- What there is to speak of grows along a search, and what fits stays so.
-use Rattle.std.proofs.Common.{◌≡◌, ℕ, ◌<◌, ◌≤◌, List, [], ◌∷◌, length, refl, sym, ap, ◌∙◌, subst, arith, Option, Some, None}
+use Rattle.std.proofs.Common.{◌≡◌, ℕ, ◌<◌, ◌≤◌, List, [], ◌∷◌, length, refl, sym, ◌∙◌, subst, arith, Option, Some, None}
 use Rattle.ale_declared.specs.Lists.{Has}
 use Rattle.ale_hierarchy.specs.Hierarchy.{Hierarchy}
 use Rattle.ale_graph.specs.declared.fact.Fact.{Fact}

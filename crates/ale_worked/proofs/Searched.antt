@@ -9,7 +9,7 @@ use Rattle.ale_morphism.specs.Visible.{visible}
 use Rattle.ale_logic.specs.Visits.{visit}
 use Rattle.ale_logic.specs.Lexicons.{lexicon}
 use Rattle.ale_logic.specs.Charts.{chart}
-use Rattle.ale_worked.specs.Worked.{TwoClauses, Conjunction, FirstOnly, Negation, IfThenElse, Inequations, Constraints, Levels, Parses, Generation}
+use Rattle.ale_worked.specs.Worked.{TwoClauses, Conjunction, Append, FirstOnly, Negation, IfThenElse, Inequations, Constraints, Levels, Parses, Generation}
 
 pub two_clauses : TwoClauses
 unfolding classes least_types fill collapse close visible visit
@@ -18,6 +18,10 @@ two_clauses = refl
 pub conjunction : Conjunction
 unfolding classes least_types fill collapse close visible visit
 conjunction = refl
+
+pub append : Append
+unfolding classes least_types fill collapse close visible visit
+append = refl
 
 pub first_only : FirstOnly
 unfolding classes least_types fill collapse close visible visit

@@ -45,6 +45,21 @@ bare = record {
   chain_length = 1;
 }
 
+-- `append(e_list, X, X) if true. append((hd:H, tl:T), X, (hd:H, tl:U)) if append(T, X, U).`
+abbrev pub cell : Description → Description → Description
+cell first others = both (at hd first) (at tl others)
+
+abbrev pub append : Description → Description → Description → Goal
+append a b c = call 0 (more a (more b (more c none)))
+
+abbrev pub appending : Program
+appending = record bare {
+  preds =
+      (record { args = more (of_type e_list) (more X (more X none)); body = yes; slots = 1 }
+      ∷ record { args = more (cell X (slot 1)) (more (slot 2) (more (cell X (slot 3)) none)); body = append (slot 1) (slot 2) (slot 3); slots = 4 }
+      ∷ []) ∷ [];
+}
+
 -- `sign cons (sem:X) goal ok(X). np cons (sem:kim).`
 abbrev pub content_is_ok : Constraint
 content_is_ok = record { of = sign; desc = at sem X; goal = Some (ok X); slots = 1 }

@@ -1,10 +1,10 @@
--- Worked examples: what is seen of replies, and of a lexicon. The expected values are those of a reference that was
--- written apart from these definitions.
+-- Worked examples: what is seen of replies, and of a lexicon. Source: this project's own examples; the expected values
+-- are those of a reference that was written apart from these definitions.
 use Rattle.std.specs.Prelude.{◌≡◌, ℕ, true, false, Some, List, [], ◌∷◌, map, codes}
 use Rattle.ale_graph.specs.declared.node.Node.{Node}
 use Rattle.ale_graph.specs.Structures.{Structure}
 use Rattle.ale_morphism.specs.Visible.{visible}
-use Rattle.ale_logic.specs.Descriptions.{of_type, at, all, differs, none, more}
+use Rattle.ale_logic.specs.Descriptions.{of_type, slot, at, all, differs, none, more}
 use Rattle.ale_logic.specs.Goals.{cut, each, equal, unless, if_else, no_goal, and_goal}
 use Rattle.ale_logic.specs.Programs.{Word}
 use Rattle.ale_logic.specs.Words.{Entry}
@@ -13,7 +13,7 @@ use Rattle.ale_logic.specs.Lexicons.{lexicon}
 use Rattle.ale_logic.specs.Charts.{keep_all}
 use Rattle.ale_logic.specs.Shown.{Shown, Reply, mgsat, query, gen, lex, rec}
 use Rattle.ale_worked.specs.Sample.{list, e_list, ne_list, sign, np, vp, s, kim, walk, hd, tl, sem, sample}
-use Rattle.ale_worked.specs.Grammars.{meaning, X, ok, bare, constrained, kim_word, walks_word, by_levels, with_empty, with_lists, headed}
+use Rattle.ale_worked.specs.Grammars.{meaning, X, ok, bare, cell, append, appending, constrained, kim_word, walks_word, by_levels, with_empty, with_lists, headed}
 
 -- a reply with the visible parts of its structures
 abbrev pub seen : Reply → Reply
@@ -43,6 +43,15 @@ TwoClauses = seen (query sample bare 1 (ok X) (0 ∷ []) 300) ≡ complete (only
 -- `ok(X), X = walk`
 abbrev pub Conjunction : Type 0
 Conjunction = seen (query sample bare 1 (each (and_goal (ok X) (and_goal (equal X (of_type walk)) no_goal))) (0 ∷ []) 300) ≡ complete (only walk ∷ []) 16
+
+-- `append(X, Y, [kim])`: the empty list and the list, and the list and the empty list, which is one node each time
+abbrev pub Append : Type 0
+Append =
+    seen (query sample appending 2 (append X (slot 1) (cell (of_type kim) (of_type e_list))) (0 ∷ 1 ∷ []) 300)
+    ≡ complete
+    (record { words = []; structure = record { nodes = node e_list [] ∷ node ne_list ((hd, 2) ∷ (tl, 0) ∷ []) ∷ node kim [] ∷ []; differ = []; roots = Some 0 ∷ Some 1 ∷ [] } }
+    ∷ record { words = []; structure = record { nodes = node ne_list ((hd, 2) ∷ (tl, 1) ∷ []) ∷ node e_list [] ∷ node kim [] ∷ []; differ = []; roots = Some 0 ∷ Some 1 ∷ [] } }
+    ∷ []) 52
 
 -- `ok(X), !`
 abbrev pub FirstOnly : Type 0

@@ -21,3 +21,6 @@ returns-clause-inequations c = searched.inequations
 
 pub returns-clause-constraints : goal.returns-clause-constraints
 returns-clause-constraints c = searched.constraints
+
+pub returns-clause-append : goal.returns-clause-append
+returns-clause-append c = searched.append

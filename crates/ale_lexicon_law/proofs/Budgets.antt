@@ -39,7 +39,7 @@ abbrev both : (ℕ → Found Entry) → (List Entry → ℕ → Found Entry) →
 both first second left = followed_by (first left) (second (first left).all (left - (first left).visits))
 
 after_it : (first : ℕ → Found Entry) (second : List Entry → ℕ → Found Entry) (A : ℕ → Type 0) (B : List Entry → ℕ → Type 0) → IsBudgeted first A → ((xs : List Entry) → IsBudgeted (second xs) (B xs)) →
-  IsBudgeted (both first second) (λ left. A left ⊎ B (first left).all (left - (first left).visits))
+    IsBudgeted (both first second) (λ left. A left ⊎ B (first left).all (left - (first left).visits))
 after_it first second A B a b = record {
   within = within;
   few = λ left.
@@ -91,7 +91,7 @@ levels_budgeted : (extract : Extract) (gr : Grammar) (n : ℕ) (xs : List Entry)
 levels_budgeted extract gr zero xs = none_above extract gr xs
 levels_budgeted extract gr (suc n) xs =
     after_it (run_all (visit gr) (level_tasks extract gr.program xs)) (levels extract gr n) (IsCutOff State Answer Entry (visit gr) (level_tasks extract gr.program xs)) (IsLevelCutOff extract gr n)
-      (in_turn gr (level_tasks extract gr.program xs)) (levels_budgeted extract gr n)
+    (in_turn gr (level_tasks extract gr.program xs)) (levels_budgeted extract gr n)
 
 either : (b : Bool) → (b ≡ true) ⊎ (b ≡ false)
 either true = inl refl
