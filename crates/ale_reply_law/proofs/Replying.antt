@@ -74,13 +74,13 @@ module _ (h : Hierarchy) (program : Program) (accepted : IsAccepted h program) w
   of_description : DescriptionLaws → (slots : ℕ) (d : Description) (budget : ℕ) → FitsDescription h slots d → ReplyLaw h (without_words (SolvesDescription h program d)) (mgsat h program slots d budget)
   of_description laws slots d budget fit = record {
     sound = λ x has.
-      let f = has_map show (found_from h program budget (start slots d)).answers x has in
-      subst (λ (z : Shown). IsPartOfSolution (without_words (SolvesDescription h program d)) z) (sym f.2)
+        let f = has_map show (found_from h program budget (start slots d)).answers x has in
+        subst (λ (z : Shown). IsPartOfSolution (without_words (SolvesDescription h program d)) z) (sym f.2)
         (record { solution = f.0.closed.graph; root = node_of f.0.closed 0; solves = (solved f.0 f.1, refl); visible_part = refl });
     complete = λ complete s n ws solves.
-      let describes : Describes h s d n = solves.0.1 in
-      let r = law.complete (finished complete) s n describes.assign (record { root = solves.0.0; nodes = describes.nodes; holds = describes.holds }) in
-      record { answer = show r.0; has = map_has show (found_from h program budget (start slots d)).answers r.0 r.1; words = sym solves.1; subsumes = one_root h r.0.closed.graph s (node_of r.0.closed 0) n r.2.subsumes };
+        let describes : Describes h s d n = solves.0.1 in
+        let r = law.complete (finished complete) s n describes.assign (record { root = solves.0.0; nodes = describes.nodes; holds = describes.holds }) in
+        record { answer = show r.0; has = map_has show (found_from h program budget (start slots d)).answers r.0 r.1; words = sym solves.1; subsumes = one_root h r.0.closed.graph s (node_of r.0.closed 0) n r.2.subsumes };
   }
     where
       law : DescriptionLaw h program slots d budget
