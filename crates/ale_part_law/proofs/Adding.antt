@@ -1,15 +1,13 @@
 -- Structures with more nodes behind those of another: their nodes, when they are formed and total, and one node fewer.
-use Rattle.std.proofs.Common.{◌≡◌, ◌≢◌, ℕ, zero, suc, ◌+◌, ◌-◌, ◌<◌, ◌≤◌, Bool, true, false, ◌&&◌, not, eqb, ltb, IsTrue, List, [], ◌∷◌, ◌++◌, map, length, length-append, get_or, option_map, ◌⊎◌, inl, inr, refl, sym, ap, ◌∙◌, subst, arith, Option, Some, None, if◌then◌else◌}
-use Rattle.std.proofs.lemmas.Bool.{and_parts, and_from, cases_lt, cases_eq, lt-ltb, le-ltb, ltb-true, eqb-true, eq-eqb, ne_eqb}
-use Rattle.std.proofs.lemmas.List.{length-map, get_or_append_left, get_or-append_right}
+use Rattle.std.proofs.Common.{◌≡◌, ℕ, zero, suc, ◌+◌, ◌-◌, ◌<◌, ◌≤◌, Bool, true, false, ◌&&◌, eqb, ltb, IsTrue, List, [], ◌∷◌, ◌++◌, map, length, length-append, get_or, option_map, ◌⊎◌, inl, inr, refl, sym, ap, ◌∙◌, subst, arith, Option, Some, None}
+use Rattle.std.proofs.lemmas.Bool.{and_parts, and_from, lt-ltb, ltb-true, eqb-true, eq-eqb}
+use Rattle.std.proofs.lemmas.List.{get_or_append_left, get_or-append_right}
 use Rattle.ale_declared.specs.Lists.{Has, every}
 use Rattle.ale_hierarchy.specs.Hierarchy.{Hierarchy, Above, IsLawful}
 use Rattle.ale_graph.specs.declared.node.Node.{Node}
-use Rattle.ale_graph.specs.Structures.{Structure, IsStructure, IsTotal, count, node_at, type_of, value_in, value_of, is_node, is_rising, is_root, is_formed}
-use Rattle.ale_graph.proofs.Lists.{has_either, has_map, every_has, every_from, none_some, some_one}
-use Rattle.ale_graph.proofs.Structures.{get_has, value_from, value_inside}
-use Rattle.ale_graph.proofs.Vectors.{get_map}
-use Rattle.ale_graph.proofs.Mapped.{mapped_value}
+use Rattle.ale_graph.specs.Structures.{Structure, IsTotal, count, node_at, type_of, value_of, is_node, is_rising, is_root, is_formed}
+use Rattle.ale_graph.proofs.Lists.{has_either, every_has, every_from, none_some, some_one}
+use Rattle.ale_graph.proofs.Structures.{value_from, value_inside}
 use Rattle.ale_morphism.proofs.MorphismSteps.{entry_of, entry_value}
 use Rattle.ale_morphism.proofs.ReachSteps.{node_parts}
 
@@ -64,10 +62,10 @@ is_listed n x e =
 pub more_formed : (s : Structure) (more : List Node) → IsTrue (is_formed s) → ((x : Node) → Has more x → IsListed (count (with_more s more)) x) → IsTrue (is_formed (with_more s more))
 more_formed s more formed listed =
     and_from (every (is_node (count (with_more s more))) (s.nodes ++ more)) (every (λ (p : ℕ × ℕ). ltb p.0 (count (with_more s more)) && ltb p.1 (count (with_more s more))) s.differ && every (is_root (count (with_more s more))) s.roots)
-      (every_from (is_node (count (with_more s more))) (s.nodes ++ more) (λ x has. node x (has_either s.nodes more x has)))
-      (and_from (every (λ (p : ℕ × ℕ). ltb p.0 (count (with_more s more)) && ltb p.1 (count (with_more s more))) s.differ) (every (is_root (count (with_more s more))) s.roots)
-        (every_from (λ (p : ℕ × ℕ). ltb p.0 (count (with_more s more)) && ltb p.1 (count (with_more s more))) s.differ (λ p has. pair p has))
-        (every_from (is_root (count (with_more s more))) s.roots (λ o has. root o has)))
+    (every_from (is_node (count (with_more s more))) (s.nodes ++ more) (λ x has. node x (has_either s.nodes more x has)))
+    (and_from (every (λ (p : ℕ × ℕ). ltb p.0 (count (with_more s more)) && ltb p.1 (count (with_more s more))) s.differ) (every (is_root (count (with_more s more))) s.roots)
+    (every_from (λ (p : ℕ × ℕ). ltb p.0 (count (with_more s more)) && ltb p.1 (count (with_more s more))) s.differ (λ p has. pair p has))
+    (every_from (is_root (count (with_more s more))) s.roots (λ o has. root o has)))
   where
     parts : (every (is_node (count s)) s.nodes ≡ true) × ((every (λ (p : ℕ × ℕ). ltb p.0 (count s) && ltb p.1 (count s)) s.differ && every (is_root (count s)) s.roots) ≡ true)
     parts = and_parts (every (is_node (count s)) s.nodes) (every (λ (p : ℕ × ℕ). ltb p.0 (count s) && ltb p.1 (count s)) s.differ && every (is_root (count s)) s.roots) formed
@@ -143,8 +141,8 @@ test_covers h t u x e =
 pub covers_tested : (h : Hierarchy) (t : Structure) → IsTrue (is_formed t) → (u x : ℕ) → u < count t → Covers h t u x → covers_test h t u x ≡ true
 covers_tested h t formed u x low c =
     and_from (h.is_above (type_of t u) (type_of t x)) (every (λ (v : ℕ × ℕ). has_value (value_of t x v.0) v.1) (node_at t u).values) c.type
-      (every_from (λ (v : ℕ × ℕ). has_value (value_of t x v.0) v.1) (node_at t u).values
-        (λ v has. has_is (value_of t x v.0) v.1 (c.values v.0 v.1 (entry_value (node_at t u).values v (node_parts t formed u low).1 has))))
+    (every_from (λ (v : ℕ × ℕ). has_value (value_of t x v.0) v.1) (node_at t u).values
+    (λ v has. has_is (value_of t x v.0) v.1 (c.values v.0 v.1 (entry_value (node_at t u).values v (node_parts t formed u low).1 has))))
 
 -- a list without the element at a place
 abbrev pub dropped : ℕ → List Node → List Node

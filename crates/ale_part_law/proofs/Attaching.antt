@@ -1,19 +1,12 @@
 -- What was cut off is added again: where the visible nodes of a structure go into another one, all of it goes into an
 -- extension. All other nodes are put behind, and one that another node covers is dropped for that one, until none is.
-use Rattle.std.proofs.Common.{◌≡◌, ◌≢◌, ℕ, zero, suc, ◌+◌, ◌-◌, ◌<◌, ◌≤◌, Bool, true, false, ◌&&◌, not, eqb, ltb, IsTrue, List, [], ◌∷◌, ◌++◌, map, length, get_or, option_map, ◌⊎◌, inl, inr, refl, sym, ap, ◌∙◌, subst, arith, Option, Some, None, if◌then◌else◌}
-use Rattle.std.proofs.lemmas.Bool.{and_parts, and_from, cases_lt, cases_eq, cases_Bool, lt-ltb, le-ltb, ltb-true, ltb-false, eqb-true, eq-eqb, ne_eqb}
-use Rattle.std.proofs.lemmas.List.{length-map}
-use Rattle.ale_declared.specs.Lists.{Has, every}
-use Rattle.ale_hierarchy.specs.Hierarchy.{Hierarchy, Above, IsLawful}
-use Rattle.ale_graph.specs.declared.node.Node.{Node}
-use Rattle.ale_graph.specs.Structures.{Structure, IsStructure, IsTotal, count, node_at, type_of, value_in, value_of, is_node, is_formed}
+use Rattle.std.proofs.Common.{◌≡◌, ◌≢◌, ℕ, zero, suc, ◌-◌, ◌<◌, ◌≤◌, Bool, true, false, eqb, ltb, ◌⊎◌, inl, inr, refl, sym, ap, ◌∙◌, arith, Some, if◌then◌else◌}
+use Rattle.std.proofs.lemmas.Bool.{cases_lt, cases_eq, lt-ltb, le-ltb, eq-eqb, ne_eqb}
+use Rattle.ale_declared.specs.Lists.{Has}
+use Rattle.ale_hierarchy.specs.Hierarchy.{Hierarchy, Above}
+use Rattle.ale_graph.specs.Structures.{Structure, count, type_of, value_of}
 use Rattle.ale_graph.specs.Morphisms.{IsMorphismAside}
 use Rattle.ale_graph.specs.Extensions.{Extends}
-use Rattle.ale_graph.proofs.Lists.{has_right, has_map, every_has, none_some, some_one}
-use Rattle.ale_graph.proofs.Structures.{get_has, value_from, value_inside}
-use Rattle.ale_graph.proofs.Vectors.{get_map}
-use Rattle.ale_graph.proofs.Mapped.{mapped_value}
-use Rattle.ale_part_law.proofs.Adding.{past, with_more, renode, count_more, node_low, node_high, option_of, rising_renamed, IsListed, is_listed, more_formed, IsRenamed, renamed_total, Covers, covers_test, test_covers, covers_tested, dropped, dropped_low, dropped_high, dropped_length, dropped_has}
 
 -- the nodes of g that are seen go into s
 pub record Glued (h : Hierarchy) (g s : Structure) (seen : ℕ → Bool) (to : ℕ → ℕ) : Type 0 where
@@ -162,4 +155,3 @@ module _ (u x : ℕ) (other : u ≡ x → ⊥) where
       go : (k ≡ u) ⊎ (k ≡ u → ⊥) → suc (moved_to k) ≤ n - 1
       go (inl is) = let e = moved_self k is in let l = lower_inside n x low far (λ q. other (sym q)) in omega arith
       go (inr ne) = let e = moved_other k ne in let l = lower_inside n k low inside ne in omega arith
-

@@ -1,19 +1,18 @@
 -- All of a structure behind another one, made shorter node by node until it is extensional.
-use Rattle.std.proofs.Common.{◌≡◌, ◌≢◌, ℕ, zero, suc, ◌+◌, ◌-◌, ◌<◌, ◌≤◌, Bool, true, false, ◌&&◌, not, eqb, ltb, IsTrue, List, [], ◌∷◌, ◌++◌, map, length, get_or, option_map, ◌⊎◌, inl, inr, refl, sym, ap, ◌∙◌, subst, arith, Option, Some, None, if◌then◌else◌}
-use Rattle.std.proofs.lemmas.Bool.{and_parts, and_from, cases_lt, cases_eq, cases_Bool, lt-ltb, le-ltb, ltb-true, ltb-false, eqb-true, eq-eqb, ne_eqb}
+use Rattle.std.proofs.Common.{◌≡◌, ◌≢◌, ℕ, suc, ◌-◌, ◌<◌, ◌≤◌, Bool, true, IsTrue, List, map, length, get_or, option_map, ◌⊎◌, inl, inr, refl, sym, ap, ◌∙◌, subst, arith, Option, Some, None}
+use Rattle.std.proofs.lemmas.Bool.{and_parts, cases_lt, cases_eq}
 use Rattle.std.proofs.lemmas.List.{length-map}
 use Rattle.ale_declared.specs.Lists.{Has, every}
 use Rattle.ale_hierarchy.specs.Hierarchy.{Hierarchy, Above, IsLawful}
 use Rattle.ale_graph.specs.declared.node.Node.{Node}
 use Rattle.ale_graph.specs.Structures.{Structure, IsStructure, IsTotal, count, node_at, type_of, value_in, value_of, is_node, is_formed}
 use Rattle.ale_graph.specs.Morphisms.{IsMorphismAside}
-use Rattle.ale_graph.specs.Extensions.{Extends}
-use Rattle.ale_graph.proofs.Lists.{has_right, has_map, every_has, none_some, some_one}
-use Rattle.ale_graph.proofs.Structures.{get_has, value_from, value_inside}
+use Rattle.ale_graph.proofs.Lists.{has_right, has_map, every_has}
+use Rattle.ale_graph.proofs.Structures.{value_from, value_inside}
 use Rattle.ale_graph.proofs.Vectors.{get_map}
 use Rattle.ale_graph.proofs.Mapped.{mapped_value}
-use Rattle.ale_part_law.proofs.Adding.{past, with_more, renode, count_more, node_low, node_high, option_of, rising_renamed, IsListed, is_listed, more_formed, IsRenamed, renamed_total, Covers, covers_test, test_covers, covers_tested, dropped, dropped_low, dropped_high, dropped_length, dropped_has}
-use Rattle.ale_part_law.proofs.Attaching.{Glued, Attached, lower, moved_to, old_of, old_low, old_high, moved_other, moved_self, moved_low, moved_old, old_lower, moved_inside}
+use Rattle.ale_part_law.proofs.Adding.{past, with_more, renode, count_more, node_low, node_high, option_of, rising_renamed, IsListed, is_listed, more_formed, renamed_total, Covers, dropped, dropped_low, dropped_high, dropped_length, dropped_has}
+use Rattle.ale_part_law.proofs.Attaching.{Glued, moved_to, old_of, old_low, old_high, moved_other, moved_self, moved_low, moved_old, old_lower, moved_inside}
 
 -- an added node is where one of g's went that has its type, or a node of s covers it
 pub data IsAdded (h : Hierarchy) (g s t : Structure) (f : ℕ → ℕ) (k : ℕ) : Type 0 where

@@ -1,12 +1,11 @@
 -- All of a structure goes into an extension of another one into which its visible nodes go.
-use Rattle.std.proofs.Common.{◌≡◌, ◌≢◌, ℕ, zero, suc, ◌+◌, ◌-◌, ◌<◌, ◌≤◌, Bool, true, false, ◌&&◌, not, eqb, ltb, IsTrue, List, [], ◌∷◌, ◌++◌, map, length, get_or, option_map, ◌⊎◌, inl, inr, refl, sym, ap, ◌∙◌, subst, arith, Option, Some, None, if◌then◌else◌}
+use Rattle.std.proofs.Common.{◌≡◌, ℕ, zero, suc, ◌+◌, ◌-◌, ◌<◌, ◌≤◌, Bool, true, false, ◌&&◌, not, eqb, ltb, IsTrue, List, map, length, get_or, option_map, ◌⊎◌, inl, inr, refl, sym, ap, ◌∙◌, subst, arith, Some, if◌then◌else◌}
 use Rattle.std.proofs.lemmas.Bool.{and_parts, and_from, cases_lt, cases_eq, cases_Bool, le-ltb, ltb-false, eqb-false, ne_eqb, not-true}
 use Rattle.std.proofs.lemmas.List.{length-map}
 use Rattle.ale_declared.specs.Lists.{Has, every}
 use Rattle.ale_hierarchy.specs.Hierarchy.{Hierarchy, Above, IsLawful}
 use Rattle.ale_graph.specs.declared.node.Node.{Node}
 use Rattle.ale_graph.specs.Structures.{Structure, IsStructure, IsTotal, IsExtensional, count, node_at, type_of, value_in, value_of, is_node, is_formed}
-use Rattle.ale_graph.specs.Morphisms.{IsMorphismAside}
 use Rattle.ale_graph.proofs.Lists.{has_map, every_has}
 use Rattle.ale_graph.proofs.Structures.{value_from, value_inside}
 use Rattle.ale_graph.proofs.Vectors.{get_map}
@@ -33,7 +32,7 @@ is_removed h c t u x e =
 removed_is : (h : Hierarchy) (c : ℕ) (t : Structure) → IsTrue (is_formed t) → (u x : ℕ) → u < count t → c ≤ u → (u ≡ x → ⊥) → Covers h t u x → removable h c t u x ≡ true
 removed_is h c t formed u x low high other covers =
     and_from (not (ltb u c)) (not (eqb u x) && covers_test h t u x) (ap not (le-ltb u c high))
-      (and_from (not (eqb u x)) (covers_test h t u x) (ap not (ne_eqb u x other)) (covers_tested h t formed u x low covers))
+    (and_from (not (eqb u x)) (covers_test h t u x) (ap not (ne_eqb u x other)) (covers_tested h t formed u x low covers))
 
 module _ (h : Hierarchy) (law : IsLawful h) (g s : Structure) (g_str : IsStructure h g) (str : IsStructure h s) (seen : ℕ → Bool) (to : ℕ → ℕ) (glued : Glued h g s seen to) where
   -- where no added node is covered by another, the draft is extensional, and there is no junk

@@ -1,10 +1,10 @@
 -- What is kept, where the visible part of an answer is: a part of it.
-use Rattle.std.proofs.Common.{◌≡◌, ℕ, zero, suc, ◌<◌, Bool, true, IsTrue, List, [], ◌∷◌, ◌++◌, map, filter, length, get_or, option_map, ◌⊎◌, inl, inr, refl, sym, ap, ◌∙◌, subst, arith, Option, Some, None}
+use Rattle.std.proofs.Common.{◌≡◌, ℕ, ◌<◌, true, IsTrue, List, [], ◌∷◌, ◌++◌, map, filter, length, option_map, inl, inr, refl, sym, ap, ◌∙◌, subst, Some}
 use Rattle.std.proofs.lemmas.List.{length-map}
 use Rattle.ale_declared.specs.Lists.{Has}
 use Rattle.ale_declared.proofs.ListLemmas.{Has-filter, filter_has}
 use Rattle.ale_hierarchy.specs.Hierarchy.{Hierarchy, Above, IsLawful}
-use Rattle.ale_graph.specs.Structures.{Structure, IsStructure, IsTotal, count, type_of, value_of, is_formed}
+use Rattle.ale_graph.specs.Structures.{Structure, IsStructure, IsTotal, count, is_formed}
 use Rattle.ale_graph.specs.Morphisms.{IsMorphismAside}
 use Rattle.ale_graph.specs.Closure.{node_of}
 use Rattle.ale_graph.proofs.Lists.{has_left, has_right, has_either, has_map, none_some, some_one}
@@ -12,15 +12,12 @@ use Rattle.ale_engine.proofs.Lists.{in_map}
 use Rattle.ale_morphism.specs.Visible.{Visible, is_visible, renumbered, origin, visible}
 use Rattle.ale_morphism.specs.VisibleLaws as seen_laws
 use Rattle.ale_morphism.proofs.ReachSteps.{root_visible}
-use Rattle.ale_logic.specs.Programs.{Element, cat, cats, derived, sem_head, member, tail, Constraint, Program}
-use Rattle.ale_logic.specs.Models.{constraint_at}
-use Rattle.ale_logic.specs.Words.{Environment, bound_in, Kept, IsKept}
-use Rattle.ale_logic.specs.Growing.{rooted}
+use Rattle.ale_logic.specs.Programs.{Element, Program}
+use Rattle.ale_logic.specs.Words.{Environment, bound_in}
 use Rattle.ale_logic.specs.States.{env_at, bound}
 use Rattle.ale_logic.specs.Visits.{Answer}
 use Rattle.ale_logic.specs.Parts.{Part, renamed, placed, where_rest, kept_answer, whole_of}
-use Rattle.ale_logic.specs.Extending.{OwesNothing}
-use Rattle.ale_logic.specs.PartLaws.{IsElementBelow, AreElementsBelow, IsReattached, IsPart, IsKeepable, PartLaw}
+use Rattle.ale_logic.specs.PartLaws.{IsElementBelow, IsReattached, IsPart, IsKeepable, PartLaw}
 use Rattle.ale_part_law.specs.VisibleParts.{named, rooted_whole, visible_part, visible_of}
 use Rattle.ale_part_law.proofs.Attaching.{Attached}
 use Rattle.ale_part_law.proofs.Gluing.{attached}
@@ -157,7 +154,7 @@ module _ (law : seen_laws.VisibleLaw) (h : Hierarchy) (program : Program) (lawfu
       r =
           let glued = part.glued law h lawful g formed total keepable.is.structure.extensional keepable.is.structure.apart s to mor in
           attached h lawful a.closed.graph s keepable.is.structure str (is_visible g) (λ n. to (renum n))
-            (record { closed = glued.closed; into = glued.into; types = glued.types; values = glued.values; pairs = glued.pairs; low = glued.low })
+          (record { closed = glued.closed; into = glued.into; types = glued.types; values = glued.values; pairs = glued.pairs; low = glued.low })
 
   pub visible_is : IsPart h program root a (visible_part (whole_of root a))
   visible_is = record {
@@ -181,8 +178,8 @@ module _ (law : seen_laws.VisibleLaw) (h : Hierarchy) (program : Program) (lawfu
     owes = λ owes n k c low at above.
         let there : Has {A = ℕ × ℕ} w.kept.imposed (origin g n, k) = owes (origin g n) k c (inside n low) at (subst (Above h c.of) (part.type_is law h lawful g formed total keepable.is.structure.extensional keepable.is.structure.apart n low) above) in
         subst (λ z. Has {A = ℕ × ℕ} (visible_part w).kept.imposed (z, k)) (number n low)
-          (in_map (λ (i : ℕ × ℕ). (renum i.0, i.1)) (filter (λ (i : ℕ × ℕ). is_visible g i.0) w.kept.imposed) (origin g n, k)
-            (Has-filter (λ (i : ℕ × ℕ). is_visible g i.0) w.kept.imposed (origin g n, k) there (test (origin g n) (inside n low) (from n low))));
+        (in_map (λ (i : ℕ × ℕ). (renum i.0, i.1)) (filter (λ (i : ℕ × ℕ). is_visible g i.0) w.kept.imposed) (origin g n, k)
+        (Has-filter (λ (i : ℕ × ℕ). is_visible g i.0) w.kept.imposed (origin g n, k) there (test (origin g n) (inside n low) (from n low))));
     env = λ v n e.
         let r = placed_bound renum w.kept.env v n e in
         let m = whole_env a.state.rest v r.0 r.1 in

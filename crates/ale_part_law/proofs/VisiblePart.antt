@@ -1,33 +1,25 @@
 -- The visible part of an answer is a part of it, to which what was cut off can be added again.
-use Rattle.std.proofs.Common.{◌≡◌, ◌≢◌, ◌↔◌, ℕ, zero, suc, ◌+◌, ◌<◌, ◌≤◌, Bool, true, false, ◌&&◌, ltb, IsTrue, List, [], ◌∷◌, ◌++◌, map, filter, length, get_or, option_map, ◌⊎◌, inl, inr, refl, sym, ap, ◌∙◌, subst, arith, Option, Some, None}
+use Rattle.std.proofs.Common.{◌≡◌, ◌↔◌, ℕ, zero, suc, ◌<◌, ◌≤◌, true, ◌&&◌, ltb, IsTrue, List, [], ◌∷◌, map, length, option_map, ◌⊎◌, inl, inr, refl, sym, ap, ◌∙◌, subst, Option, Some, None}
 use Rattle.std.proofs.lemmas.Bool.{and_parts, and_from, cases_lt, lt-ltb}
-use Rattle.std.proofs.lemmas.List.{length-map, get_or_past}
+use Rattle.std.proofs.lemmas.List.{get_or_past}
 use Rattle.ale_declared.specs.Lists.{Has, every}
-use Rattle.ale_declared.proofs.ListLemmas.{Has-filter, filter_has}
 use Rattle.ale_hierarchy.specs.Hierarchy.{Hierarchy, Above, IsLawful}
-use Rattle.ale_graph.specs.declared.node.Node.{Node}
-use Rattle.ale_graph.specs.Structures.{Structure, IsStructure, IsTotal, IsExtensional, IsApart, count, node_at, type_of, value_in, value_of, is_node, is_root, is_formed}
+use Rattle.ale_graph.specs.Structures.{Structure, IsStructure, IsTotal, IsExtensional, IsApart, count, type_of, value_of, is_node, is_root, is_formed}
 use Rattle.ale_graph.specs.Morphisms.{IsMorphismAside}
-use Rattle.ale_graph.specs.Closure.{node_of}
-use Rattle.ale_graph.proofs.Lists.{has_left, has_right, has_either, has_map, every_from, none_some, some_one}
+use Rattle.ale_graph.proofs.Lists.{has_map, every_from, none_some, some_one}
 use Rattle.ale_graph.proofs.Structures.{get_has, value_from, value_inside}
 use Rattle.ale_engine.proofs.Lists.{in_map}
 use Rattle.ale_morphism.specs.Visible.{Visible, is_visible, renumbered, origin, visible}
 use Rattle.ale_morphism.specs.VisibleLaws as seen_laws
-use Rattle.ale_morphism.proofs.ReachSteps.{pair_inside, root_visible, pair_visible, visible_formed}
-use Rattle.ale_logic.specs.Programs.{Element, cat, cats, derived, sem_head, member, tail, Constraint, Program}
-use Rattle.ale_logic.specs.Models.{constraint_at}
-use Rattle.ale_logic.specs.Words.{Environment, bound_in, Kept, IsKept}
+use Rattle.ale_morphism.proofs.ReachSteps.{pair_inside, visible_formed}
+use Rattle.ale_logic.specs.Programs.{Element, cat, cats, derived, sem_head, member, tail}
+use Rattle.ale_logic.specs.Words.{Environment, bound_in}
 use Rattle.ale_logic.specs.Growing.{rooted}
-use Rattle.ale_logic.specs.States.{env_at, bound, State}
-use Rattle.ale_logic.specs.Visits.{Answer}
-use Rattle.ale_logic.specs.Parts.{Part, Extract, renamed, placed, where_rest, kept_answer, whole_of}
-use Rattle.ale_logic.specs.Extending.{OwesNothing}
-use Rattle.ale_logic.specs.PartLaws.{IsElementBelow, AreElementsBelow, IsReattached, IsPart, IsKeepable, PartLaw}
-use Rattle.ale_part_law.specs.VisibleParts.{named, rooted_whole, visible_part, visible_of}
+use Rattle.ale_logic.specs.Parts.{renamed, placed}
+use Rattle.ale_logic.specs.PartLaws.{IsElementBelow}
+use Rattle.ale_part_law.specs.VisibleParts.{named}
 use Rattle.ale_part_law.proofs.Adding.{option_of}
-use Rattle.ale_part_law.proofs.Attaching.{Glued, Attached}
-use Rattle.ale_part_law.proofs.Gluing.{attached}
+use Rattle.ale_part_law.proofs.Attaching.{Glued}
 
 -- variables of a renamed environment
 pub placed_bound : (to : ℕ → ℕ) (env : Environment) (v n : ℕ) → bound_in (map (placed to) env) v ≡ Some n → (m : ℕ) × (bound_in env v ≡ Some m) × (n ≡ to m)
@@ -84,7 +76,7 @@ below_renamed f n (derived g) low = tt
 pub rooted_formed : (s : Structure) (roots : List (Option ℕ)) → IsTrue (is_formed s) → ((n : ℕ) → Has roots (Some n) → n < count s) → IsTrue (is_formed (rooted s roots))
 rooted_formed s roots formed low =
     and_from (every (is_node (count s)) s.nodes) (every (λ (p : ℕ × ℕ). ltb p.0 (count s) && ltb p.1 (count s)) s.differ && every (is_root (count s)) roots) parts.0
-      (and_from (every (λ (p : ℕ × ℕ). ltb p.0 (count s) && ltb p.1 (count s)) s.differ) (every (is_root (count s)) roots) others.0 (every_from (is_root (count s)) roots (λ o has. root o has)))
+    (and_from (every (λ (p : ℕ × ℕ). ltb p.0 (count s) && ltb p.1 (count s)) s.differ) (every (is_root (count s)) roots) others.0 (every_from (is_root (count s)) roots (λ o has. root o has)))
   where
     parts : (every (is_node (count s)) s.nodes ≡ true) × ((every (λ (p : ℕ × ℕ). ltb p.0 (count s) && ltb p.1 (count s)) s.differ && every (is_root (count s)) s.roots) ≡ true)
     parts = and_parts (every (is_node (count s)) s.nodes) (every (λ (p : ℕ × ℕ). ltb p.0 (count s) && ltb p.1 (count s)) s.differ && every (is_root (count s)) s.roots) formed
@@ -215,8 +207,10 @@ module _ (law : seen_laws.VisibleLaw) (h : Hierarchy) (lawful : IsLawful h) (g :
         mor.values (renumbered g n) f (renumbered g m) (value_is (renumbered g n) f (v.onto n vis) ∙ ap (λ z. option_map (renumbered g) (value_of g z f)) (v.back n vis) ∙ ap (option_map (renumbered g)) q);
     pairs = λ a b has.
         let low = pair_inside g formed (a, b) has in
-        let vis = pair_visible_of a b has in
-        ((tested a low.0).1 vis.0, (tested b low.1).1 vis.1,
-          mor.differs (renumbered g a) (renumbered g b) (subst (λ (w : List (ℕ × ℕ)). Has w (renumbered g a, renumbered g b)) (sym differ_is) (in_map (λ (p : ℕ × ℕ). (renumbered g p.0, renumbered g p.1)) g.differ (a, b) has)));
+        let vis = pair_visible_of a b has in (
+          (tested a low.0).1 vis.0,
+          (tested b low.1).1 vis.1,
+          mor.differs (renumbered g a) (renumbered g b) (subst (λ (w : List (ℕ × ℕ)). Has w (renumbered g a, renumbered g b)) (sym differ_is) (in_map (λ (p : ℕ × ℕ). (renumbered g p.0, renumbered g p.1)) g.differ (a, b) has)),
+        );
     low = λ a b has. pair_inside g formed (a, b) has;
   }

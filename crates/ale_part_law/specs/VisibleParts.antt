@@ -1,12 +1,10 @@
 -- What is kept of an answer, cut down to what is reached from its root, from a differing pair, from a bound variable
 -- where elements remain, and from what these elements name. Source: feature structures as rooted graphs, Carpenter 1992.
-use Rattle.std.specs.Prelude.{ℕ, Option, Some, None, List, [], ◌∷◌, ◌++◌, map, filter}
+use Rattle.std.specs.Prelude.{ℕ, Option, Some, None, [], ◌∷◌, ◌++◌, map, filter}
 use Rattle.ale_graph.specs.Structures.{Structure}
 use Rattle.ale_morphism.specs.Visible.{is_visible, renumbered, origin, visible}
 use Rattle.ale_logic.specs.Programs.{Element, cat, cats, derived, sem_head, member, tail}
-use Rattle.ale_logic.specs.Words.{Kept}
 use Rattle.ale_logic.specs.Growing.{rooted}
-use Rattle.ale_logic.specs.Visits.{Answer}
 use Rattle.ale_logic.specs.Parts.{Part, Extract, renamed, placed, whole_of}
 
 -- the node that an element names, where it names one
