@@ -115,7 +115,8 @@ processed extract keep gr (suc n) c = processed extract keep gr n (process_first
 abbrev pub first_chart : Program → Words → List Word → ℕ → Chart
 first_chart program words sentence budget = record { done = []; todo = initial_items words program 0 sentence; left = budget; finished = true }
 
--- each answer takes a visit, so no more items than these come to be; the searches use no words
+-- Each new item is an answer, and each answer takes a visit: so after as many steps as there are first items and
+-- visits none waits. The searches of a chart use no words.
 unfoldable pub chart : Extract → Keep → Hierarchy → Program → Words → List Word → ℕ → Chart
 chart extract keep h program words sentence budget =
     processed extract keep (wordless h program) (length (initial_items words program 0 sentence) + budget) (first_chart program words sentence budget)

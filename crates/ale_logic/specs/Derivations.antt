@@ -8,7 +8,7 @@ use Rattle.ale_logic.specs.Descriptions.{Descriptions, none, more, HoldsAt, IsAs
 use Rattle.ale_logic.specs.Goals.{Goal, Goals, yes, cut, each, either, equal, call, unless, if_else, once, no_goal, and_goal}
 use Rattle.ale_logic.specs.Programs.{Clause, Program, clauses_of}
 
--- the descriptions hold at the nodes, the first at the first and so on
+-- the descriptions hold at the nodes, the first at the first and so on, as far as both go
 abbrev pub HoldEach : Hierarchy → Structure → (ℕ → ℕ) → Descriptions → List ℕ → Type 0
 HoldEach h s assign none ns = Unit {0}
 HoldEach h s assign (more d ds) [] = Unit {0}

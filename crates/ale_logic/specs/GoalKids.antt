@@ -1,5 +1,6 @@
 -- How a search goes on where a goal is to be derived, a predicate is called, or a constraint is imposed.
--- `waiting` is how many states wait. The order is that of Prolog: clauses in order, depth first.
+-- `waiting` is how many states wait, `e` the number of an environment, `c` a cut height. The order is that of Prolog:
+-- clauses in order, depth first.
 use Rattle.std.specs.Prelude.{ℕ, zero, suc, Option, Some, None, List, [], ◌∷◌, length}
 use Rattle.ale_logic.specs.Descriptions.{Description, Descriptions, none, more, how_many}
 use Rattle.ale_logic.specs.Goals.{Goal, Goals, yes, cut, each, either, equal, call, unless, if_else, once, no_goal, and_goal}

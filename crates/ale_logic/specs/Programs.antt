@@ -14,7 +14,8 @@ pub record Clause : Type 0 where
   pub body : Goal
   pub slots : ℕ
 
--- what holds of every node of the type, where the goal can be derived
+-- of every node of the type the description holds, and the goal, where there is one, can be derived under the same
+-- assignment
 pub record Constraint : Type 0 where
   pub of : ℕ
   pub desc : Description
@@ -43,7 +44,7 @@ pub data Element : Type 0 where
   cats : Description → Element
   derived : Goal → Element
   sem_head : Description → Element
-  -- in chart items alone: the member and the tail of the list node
+  -- in chart items alone: the first member, and the list of the others, of the list that the node is
   member : ℕ → Element
   tail : ℕ → Element
 

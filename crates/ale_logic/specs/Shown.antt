@@ -19,7 +19,7 @@ use Rattle.ale_logic.specs.Starts.{start, start_goal, start_gen, ChartItem}
 use Rattle.ale_logic.specs.Lexicons.{wordless, with_words, Lexicon}
 use Rattle.ale_logic.specs.Charts.{same_word, Keep, Chart, items, chart}
 
--- a phrase consists of words and later phrases, so there are at most as many within one another as there are
+-- a phrase consists of words and later phrases, so they stand within one another no deeper than there are phrases
 abbrev pub words_of : Answer → ℕ → List Word
 words_of a g = spelled a.state.phrases a.state.said g
 

@@ -14,7 +14,7 @@ Environment = List (Option ℕ)
 abbrev pub bound_in : Environment → ℕ → Option ℕ
 bound_in env v = get_or env v None
 
--- the graph, the nodes and constraints imposed there, and the environment, where elements remain
+-- the graph, the nodes and constraints imposed there, and an environment
 pub record Kept : Type 0 where
   pub graph : Structure
   pub imposed : List (ℕ × ℕ)
