@@ -5,11 +5,13 @@ use Rattle.std.proofs.lemmas.List.{append-nil}
 use Rattle.ale_hierarchy.specs.Hierarchy.{Hierarchy}
 use Rattle.ale_engine.specs.EngineLaws.{IsPrefix}
 use Rattle.ale_engine.specs.Growth.{Found, run_all}
+use Rattle.ale_engine.specs.GrowthLaws.{IsCutOff}
 use Rattle.ale_engine.proofs.Lists.{none_short}
 use Rattle.ale_logic.specs.Programs.{Word, Program}
 use Rattle.ale_logic.specs.Words.{Words}
 use Rattle.ale_logic.specs.Parts.{Extract}
-use Rattle.ale_logic.specs.Visits.{visit}
+use Rattle.ale_logic.specs.States.{State}
+use Rattle.ale_logic.specs.Visits.{Answer, visit}
 use Rattle.ale_logic.specs.Lexicons.{wordless}
 use Rattle.ale_logic.specs.Starts.{ChartItem}
 use Rattle.ale_logic.specs.Charts.{tasks_of, Keep, put_kept, Chart, items, after_item, process_first, processed, initial_items, first_chart, chart}
@@ -136,6 +138,19 @@ module _ (extract : Extract) (keep : Keep) (h : Hierarchy) (program : Program) w
       go later (inl e) = let r = later e in record { number = suc r.number; item = r.item; later = r.later; waits = r.waits; cut_off = r.cut_off }
       go later (inr e) = here c.todo refl e
 
+  -- where the chart was finished, no search that was due has a state left
+  never : (number n : ℕ) (c : Chart) → (grown n c).todo ≡ [] → (grown n c).finished ≡ true → (x : ChartItem) (xs : List ChartItem) → (grown number c).todo ≡ x ∷ xs →
+      IsCutOff State Answer ChartItem (visit (wordless h program)) (tasks_of extract program (grown number c).done x) (grown number c).left → ⊥
+  never zero zero c none fin x xs eq cut = absurd (let no : [] ≡ x ∷ xs = sym none ∙ eq in cc)
+  never zero (suc m) c none fin x xs eq cut =
+      let q : (grown m (first_step c (x ∷ xs))).finished ≡ true = subst (λ ys. (grown m (first_step c ys)).finished ≡ true) eq fin in
+      let both = and_parts c.finished (results h program extract keep c x).finished (was_finished h program extract keep m (first_step c (x ∷ xs)) q) in
+      (law h program extract keep c x).ended both.1 cut
+  never (suc k) zero c none fin x xs eq cut =
+      never k zero c none fin x xs (subst (λ ys. (grown k (first_step c ys)).todo ≡ x ∷ xs) none eq)
+      (subst (λ ys. IsCutOff State Answer ChartItem (visit (wordless h program)) (tasks_of extract program (grown k (first_step c ys)).done x) (grown k (first_step c ys)).left) none cut)
+  never (suc k) (suc m) c none fin x xs eq cut = never k m (first_step c c.todo) none fin x xs eq cut
+
   -- the chart with other visits left
   abbrev with_left : Chart → ℕ → Chart
   with_left c left = record { done = c.done; todo = c.todo; left = left; finished = c.finished }
@@ -254,6 +269,7 @@ module _ (extract : Extract) (keep : Keep) (h : Hierarchy) (program : Program) w
       processed_all = whole_processed budget;
       spent = λ fin. all_spent (size + budget) (begun budget) (λ e. absurd cc) fin;
       unfinished = λ fin. cut_off (size + budget) (begun budget) refl fin;
+      ended = λ fin r. never r.number (size + budget) (begun budget) (whole_processed budget) fin r.item r.later r.waits r.cut_off;
       needed = λ fin fewer less. needed fin fewer less (cases_Bool (whole fewer).finished);
       settled = λ fin other le. same_chart budget fin other le;
       further = λ larger le.

@@ -1,12 +1,11 @@
 -- An item that another one subsumes is replaced by it: the two maps one after the other are a morphism, as differing
 -- pairs go to differing pairs.
-use Rattle.std.proofs.Common.{◌≡◌, ◌≢◌, ℕ, false, List, ◌⊎◌, inl, inr, sym}
+use Rattle.std.proofs.Common.{◌≢◌, ℕ, ◌⊎◌, inl, inr, sym}
 use Rattle.ale_declared.specs.Lists.{Has}
 use Rattle.ale_hierarchy.specs.Hierarchy.{Hierarchy, IsLawful}
 use Rattle.ale_graph.specs.Structures.{Structure, type_of}
 use Rattle.ale_graph.specs.Morphisms.{IsMorphismAside}
 use Rattle.ale_logic.specs.Starts.{ChartItem}
-use Rattle.ale_logic.specs.ChartLaws.{Replaces}
 use Rattle.ale_chart_law.specs.Subsumed.{SubsumesItem, SubsumptionKeeps, AllKeeps}
 
 after_it : (h : Hierarchy) → IsLawful h → (y x : ChartItem) → (by : SubsumesItem h y x) → (s : Structure) (g : ℕ → ℕ) → IsMorphismAside h x.kept.graph s g → IsMorphismAside h y.kept.graph s (λ n. g (by.subsumes.map n))

@@ -3,7 +3,7 @@ use Rattle.std.proofs.Common.{◌≡◌, ℕ, ◌+◌, ◌-◌, ◌<◌, ◌≤�
 use Rattle.std.proofs.lemmas.Bool.{and_parts}
 use Rattle.std.proofs.lemmas.List.{append-nil, length-map}
 use Rattle.ale_relation.specs.Has.{Has}
-use Rattle.ale_engine.specs.Engine.{Visit, waiting_after, visits_in, answers_in, Outcome, search}
+use Rattle.ale_engine.specs.Engine.{Visit, waiting_after, visits_in, answers_in, is_nothing, Outcome, search}
 use Rattle.ale_engine.specs.Growth.{Task, Found, followed_by, made_of, run_all}
 use Rattle.ale_engine.specs.EngineLaws.{IsPrefix, IsWaiting}
 use Rattle.ale_engine.specs.GrowthLaws.{IsMade, HasRun, IsCutOff, RunAllLaw}
@@ -111,6 +111,23 @@ cut_off {S = S} {A = A} {B = B} visit (t ∷ ts) left fin = go (cut_off visit ts
           waits = subst (λ n. IsWaiting S (waiting_after visit n r.task.waiting)) same r.waits;
         }
 
+not_both : {S : Type 0} (sts : List S) → is_nothing sts ≡ true → IsWaiting S sts → ⊥
+not_both [] e w = let no : [] ≡ w.first ∷ w.others = w.are in absurd cc
+not_both (st ∷ sts) e w = absurd cc
+
+ended_at : {S A B : Type 0} (visit : ℕ → S → Visit S A) (before : List (Task S A B)) (t : Task S A B) (later : List (Task S A B)) (left : ℕ) → (run_all visit (before ++ t ∷ later) left).finished ≡ true → IsWaiting S (waiting_after visit (left - (run_all visit before left).visits) t.waiting) → ⊥
+ended_at {S = S} visit [] t later left fin waits =
+    let fins = and_parts (search visit left t.waiting).finished (run_all visit later (left - visits_in visit left t.waiting)).finished fin in
+    let same : left - 0 ≡ left = omega arith in
+    not_both (waiting_after visit left t.waiting) fins.0 (subst (λ n. IsWaiting S (waiting_after visit n t.waiting)) same waits)
+ended_at {S = S} visit (u ∷ before) t later left fin waits =
+    let fins = and_parts (search visit left u.waiting).finished (run_all visit (before ++ t ∷ later) (left - visits_in visit left u.waiting)).finished fin in
+    let same : left - (visits_in visit left u.waiting + (run_all visit before (left - visits_in visit left u.waiting)).visits) ≡ (left - visits_in visit left u.waiting) - (run_all visit before (left - visits_in visit left u.waiting)).visits = omega arith in
+    ended_at visit before t later (left - visits_in visit left u.waiting) fins.1 (subst (λ n. IsWaiting S (waiting_after visit n t.waiting)) same waits)
+
+ended : {S A B : Type 0} (visit : ℕ → S → Visit S A) (ts : List (Task S A B)) (left : ℕ) → (run_all visit ts left).finished ≡ true → IsCutOff S A B visit ts left → ⊥
+ended visit ts left fin c = ended_at visit c.before c.task c.later left (subst (λ us. (run_all visit us left).finished ≡ true) c.are fin) c.waits
+
 settles : {S A B : Type 0} (visit : ℕ → S → Visit S A) (ts : List (Task S A B)) (left : ℕ) → (run_all visit ts left).finished ≡ true → (other : ℕ) → (run_all visit ts left).visits ≤ other → run_all visit ts other ≡ run_all visit ts left
 settles visit [] left fin other le = refl
 settles {S = S} {A = A} {B = B} visit (t ∷ ts) left fin other le =
@@ -176,6 +193,7 @@ run_all_law S A B visit tasks left = record {
   has_run = has_run visit tasks left;
   spent = spends visit tasks left;
   unfinished = cut_off visit tasks left;
+  ended = ended visit tasks left;
   needed = needed visit tasks left;
   settled = settles visit tasks left;
   further = λ larger le. further visit tasks left larger le;

@@ -39,6 +39,8 @@ pub record RunAllLaw (S A B : Type 0) (visit : ℕ → S → Visit S A) (tasks :
   pub spent : (run_all visit tasks budget).finished ≡ false → (run_all visit tasks budget).visits ≡ budget
   -- unfinished only where a search that is due has a state left
   pub unfinished : (run_all visit tasks budget).finished ≡ false → IsCutOff S A B visit tasks budget
+  -- and finished only where none has
+  pub ended : (run_all visit tasks budget).finished ≡ true → IsCutOff S A B visit tasks budget → ⊥
   -- the visits of what is finished are just as many as it needs
   pub needed : (run_all visit tasks budget).finished ≡ true → (fewer : ℕ) → fewer < (run_all visit tasks budget).visits → (run_all visit tasks fewer).finished ≡ false
   -- and it is the same with any budget that has them

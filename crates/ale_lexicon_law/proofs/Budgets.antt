@@ -19,6 +19,7 @@ pub record IsBudgeted (found : ℕ → Found Entry) (CutOff : ℕ → Type 0) : 
   pub few : (left : ℕ) → length (found left).all ≤ (found left).visits
   pub spent : (left : ℕ) → (found left).finished ≡ false → (found left).visits ≡ left
   pub unfinished : (left : ℕ) → (found left).finished ≡ false → CutOff left
+  pub ended : (left : ℕ) → (found left).finished ≡ true → CutOff left → ⊥
   pub settled : (left : ℕ) → (found left).finished ≡ true → (other : ℕ) → (found left).visits ≤ other → found other ≡ found left
 
 false_of_and : (a b : Bool) → (a && b) ≡ false → (a ≡ false) ⊎ ((a ≡ true) × (b ≡ false))
@@ -31,6 +32,7 @@ in_turn gr tasks = record {
   few = λ left. (run_all_law State Answer Entry (visit gr) tasks left).few;
   spent = λ left. (run_all_law State Answer Entry (visit gr) tasks left).spent;
   unfinished = λ left. (run_all_law State Answer Entry (visit gr) tasks left).unfinished;
+  ended = λ left. (run_all_law State Answer Entry (visit gr) tasks left).ended;
   settled = λ left. (run_all_law State Answer Entry (visit gr) tasks left).settled;
 }
 
@@ -52,9 +54,14 @@ after_it first second A B a b = record {
     | inl one ↦ inl (a.unfinished left one)
     | inr two ↦ inr ((b (first left).all).unfinished (left - (first left).visits) two.1)
   ];
+  ended = λ left e. ended left (and_parts (first left).finished (second (first left).all (left - (first left).visits)).finished e);
   settled = settled;
 }
   where
+    ended : (left : ℕ) → ((first left).finished ≡ true) × ((second (first left).all (left - (first left).visits)).finished ≡ true) → A left ⊎ B (first left).all (left - (first left).visits) → ⊥
+    ended left fins (inl one) = a.ended left fins.0 one
+    ended left fins (inr two) = (b (first left).all).ended (left - (first left).visits) fins.1 two
+
     within : (left : ℕ) → (both first second left).visits ≤ left
     within left =
         let one = a.within left in
@@ -84,6 +91,7 @@ none_above extract gr xs = record {
   few = λ left. omega arith;
   spent = λ left e. absurd cc;
   unfinished = λ left e. absurd cc;
+  ended = λ left e none. none;
   settled = λ left fin other le. refl;
 }
 
@@ -179,6 +187,14 @@ module _ (extract : Extract) (h : Hierarchy) (program : Program) where
   cut_off budget (inr (inl e)) = inr (inl (empties_budgeted.unfinished (left_by_words budget) e))
   cut_off budget (inr (inr e)) = inr (inr ((above_budgeted (words_in budget).all).unfinished (left_by_both budget) e))
 
+  ended : (budget : ℕ) → (whole budget).finished ≡ true → IsLexiconCutOff extract (wordless h program) budget → ⊥
+  ended budget fin = go (and_parts ((words_in budget).finished && (empties_in (left_by_words budget)).finished) (above_in (words_in budget).all (left_by_both budget)).finished fin)
+    where
+      go : (((words_in budget).finished && (empties_in (left_by_words budget)).finished) ≡ true) × ((above_in (words_in budget).all (left_by_both budget)).finished ≡ true) → IsLexiconCutOff extract (wordless h program) budget → ⊥
+      go front (inl one) = words_budgeted.ended budget (and_parts (words_in budget).finished (empties_in (left_by_words budget)).finished front.0).0 one
+      go front (inr (inl two)) = empties_budgeted.ended (left_by_words budget) (and_parts (words_in budget).finished (empties_in (left_by_words budget)).finished front.0).1 two
+      go front (inr (inr three)) = (above_budgeted (words_in budget).all).ended (left_by_both budget) front.1 three
+
   settled : (budget : ℕ) → (whole budget).finished ≡ true → (other : ℕ) → (whole budget).visits ≤ other → whole other ≡ whole budget
   settled budget fin other le =
       let front = and_parts ((words_in budget).finished && (empties_in (left_by_words budget)).finished) (above_in (words_in budget).all (left_by_both budget)).finished fin in
@@ -209,6 +225,7 @@ lexicon_budget_law extract h program budget = record {
   few = few extract h program budget;
   spent = λ e. spent extract h program budget (which extract h program budget e);
   unfinished = λ e. cut_off extract h program budget (which extract h program budget e);
+  ended = ended extract h program budget;
   needed = needed extract h program budget;
   settled = settled extract h program budget;
 }

@@ -57,10 +57,10 @@ pub record SubsumesSolution (h : Hierarchy) (a : Answer) (s : Structure) (n : �
 pub record DescriptionLaw (h : Hierarchy) (program : Program) (slots : ℕ) (d : Description) (budget : ℕ) : Type 0 where
   pub sound : (a : Answer) → Has (found_from h program budget (start slots d)).answers a → SolvesItself h program d a
   pub complete : (found_from h program budget (start slots d)).finished ≡ true → (s : Structure) (n : ℕ) (assign : ℕ → ℕ) → SolvesUnder h program d s n assign →
-    (a : Answer) × Has (found_from h program budget (start slots d)).answers a × SubsumesSolution h a s n assign
+      (a : Answer) × Has (found_from h program budget (start slots d)).answers a × SubsumesSolution h a s n assign
   -- each structure that an answer subsumes is as described, whatever node an unbound variable stands for
   pub subsumed : (a : Answer) → Has (found_from h program budget (start slots d)).answers a → (s : Structure) (n : ℕ) (assign : ℕ → ℕ) → IsStructure h s → IsAssignment s assign →
-    SubsumesSolution h a s n assign → HoldsAt h s assign d n
+      SubsumesSolution h a s n assign → HoldsAt h s assign d n
 
 -- without disjunction and constraints two visits for each part, and two to spare, are enough
 abbrev pub EnoughLaw : Type 0

@@ -116,6 +116,7 @@ pub record ChartBudgetLaw (extract : Extract) (keep : Keep) (h : Hierarchy) (pro
   pub processed_all : (c budget).todo ≡ []
   pub spent : (c budget).finished ≡ false → (c budget).left ≡ 0
   pub unfinished : (c budget).finished ≡ false → IsChartCutOff extract keep h program (first_chart program words sentence budget)
+  pub ended : (c budget).finished ≡ true → IsChartCutOff extract keep h program (first_chart program words sentence budget) → ⊥
   -- the visits of a finished chart are just as many as it needs, and it is the same with any budget that has them
   pub needed : (c budget).finished ≡ true → (fewer : ℕ) → fewer < budget - (c budget).left → (c fewer).finished ≡ false
   pub settled : (c budget).finished ≡ true → (other : ℕ) → budget - (c budget).left ≤ other → IsSameChart budget (c budget) other (c other)

@@ -107,6 +107,7 @@ pub record LexiconBudgetLaw (extract : Extract) (h : Hierarchy) (program : Progr
   pub few : length (lexicon extract h program budget).words.entries + length (lexicon extract h program budget).words.empties ≤ (lexicon extract h program budget).visits
   pub spent : (lexicon extract h program budget).finished ≡ false → (lexicon extract h program budget).visits ≡ budget
   pub unfinished : (lexicon extract h program budget).finished ≡ false → IsLexiconCutOff extract (wordless h program) budget
+  pub ended : (lexicon extract h program budget).finished ≡ true → IsLexiconCutOff extract (wordless h program) budget → ⊥
   -- the visits of a finished lexicon are just as many as it needs, and it is the same with any budget that has them
   pub needed : (lexicon extract h program budget).finished ≡ true → (fewer : ℕ) → fewer < (lexicon extract h program budget).visits → (lexicon extract h program fewer).finished ≡ false
   pub settled : (lexicon extract h program budget).finished ≡ true → (other : ℕ) → (lexicon extract h program budget).visits ≤ other → lexicon extract h program other ≡ lexicon extract h program budget

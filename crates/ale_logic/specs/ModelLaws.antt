@@ -2,7 +2,6 @@
 -- met there. Source: most general satisfiers under constraints on types, Carpenter 1992, chapter 15.
 use Rattle.std.specs.Prelude.{ℕ, List}
 use Rattle.ale_declared.specs.Lists.{Has}
-use Rattle.ale_graph.specs.Structures.{Structure}
 use Rattle.ale_graph.specs.Closure.{node_of}
 use Rattle.ale_logic.specs.Models.{MeetsAt, IsModel}
 use Rattle.ale_logic.specs.Words.{Grammar}
@@ -13,15 +12,16 @@ use Rattle.ale_logic.specs.Steps.{IsGrammar, IsBrought, IsInFragment}
 use Rattle.ale_logic.specs.Runs.{MeetsPairs}
 use Rattle.ale_logic.specs.StartLaws.{IsStart}
 
--- each constraint that an entry or an empty brings into the structure is met there
-abbrev pub MeetsBrought : Grammar → Structure → Type 0
-MeetsBrought gr s = (n k : ℕ) → IsBrought gr s n k → MeetsAt gr.signature gr.program s k n
+-- what was imposed in the answer and was brought by an entry or an empty is met in the answer's graph
+abbrev pub MeetsBrought : Grammar → Answer → Type 0
+MeetsBrought gr a =
+    (n k : ℕ) → Has a.state.imposed (n, k) → IsBrought gr a.closed.graph (node_of a.closed n) k → MeetsAt gr.signature gr.program a.closed.graph k (node_of a.closed n)
 
 -- the answer came from one of the states, and its graph is a model where what was given is met
 pub record IsModelWhereMet (gr : Grammar) (first : List State) (a : Answer) : Type 0 where
   pub state : State
   pub has : Has first state
-  pub model : MeetsPairs gr a.closed.graph (node_of a.closed) state.imposed → MeetsBrought gr a.closed.graph → IsModel gr.signature gr.program a.closed.graph
+  pub model : MeetsPairs gr a.closed.graph (node_of a.closed) state.imposed → MeetsBrought gr a → IsModel gr.signature gr.program a.closed.graph
 
 -- a start of the grammar inside the fragment
 pub record IsPlainStart (gr : Grammar) (st : State) : Type 0 where

@@ -1,5 +1,5 @@
 -- What replies have to do with solutions, from the laws of searches, the lexicon, the chart and generation.
-use Rattle.std.proofs.Common.{◌≡◌, ℕ, zero, suc, true, ◌&&◌, eqb, List, [], ◌∷◌, length, map, filter, get_or, inl, inr, refl, sym, ap, ◌∙◌, subst, arith, Option, Some, None}
+use Rattle.std.proofs.Common.{◌≡◌, ℕ, zero, suc, true, false, ◌&&◌, eqb, List, [], ◌∷◌, length, map, filter, get_or, inl, inr, refl, sym, ap, ◌∙◌, subst, arith, Option, Some, None}
 use Rattle.std.proofs.lemmas.Bool.{and_parts, and_from, eqb-true, eq-eqb}
 use Rattle.ale_declared.specs.Lists.{Has}
 use Rattle.ale_hierarchy.specs.Hierarchy.{Hierarchy}
@@ -16,18 +16,20 @@ use Rattle.ale_logic.specs.Growing.{rooted}
 use Rattle.ale_logic.specs.States.{bound, env_at}
 use Rattle.ale_logic.specs.Starts.{start, start_goal, ChartItem}
 use Rattle.ale_logic.specs.Visits.{Answer}
-use Rattle.ale_logic.specs.Parts.{Extract, placed}
+use Rattle.ale_logic.specs.Parts.{whole_of, Extract, placed}
 use Rattle.ale_logic.specs.PartLaws.{PartLaw}
 use Rattle.ale_logic.specs.Lexicons.{Lexicon, lexicon}
-use Rattle.ale_logic.specs.Charts.{Keep, items, chart, same_word}
+use Rattle.ale_logic.specs.Charts.{Keep, keep_all, items, chart, same_word}
 use Rattle.ale_logic.specs.ChartLaws.{KeepLaw, ChartLaw, ChartLaws}
 use Rattle.ale_logic.specs.LexiconLaws.{LexiconLaw, LexiconLaws}
 use Rattle.ale_logic.specs.GenerationLaws.{generated_from, GenerationLaw, GenerationLaws}
 use Rattle.ale_logic.specs.Answers.{IsAccepted, SubsumesAt, found_from, DescriptionLaw, DescriptionLaws, node_for, GoalLaw, GoalLaws}
 use Rattle.ale_engine.specs.Engine.{is_nothing}
 use Rattle.ale_logic.specs.Shown.{Shown, words_of, shown_root, shown_slots, shown_kept, mgsat, query, gen, lex, is_passive_over, rec}
-use Rattle.ale_reply_law.specs.Replies.{without_words, IsPartOfSolution, ReplyLaw, StandFor, IsPartOfDerivation, QueryReplyLaw, ReplyLaws}
+use Rattle.ale_reply_law.specs.Replies.{without_words, IsPartOfSolution, ReplyLaw, StandFor, IsPartOfDerivation, QueryReplyLaw, ReplyLaws, WholeReplyLaws}
 use Rattle.ale_declared.proofs.ListLemmas.{Has-filter, filter_has}
+use Rattle.ale_extension_law.proofs.Wholes.{whole_part}
+use Rattle.ale_run_law.proofs.Enough.{enough}
 use Rattle.ale_chart_law.proofs.Beginning.{same_is, is_same}
 
 pub map_has : {A B : Type 0} (f : A → B) (xs : List A) (x : A) → Has xs x → Has (map f xs) (f x)
@@ -72,13 +74,13 @@ module _ (h : Hierarchy) (program : Program) (accepted : IsAccepted h program) w
   of_description : DescriptionLaws → (slots : ℕ) (d : Description) (budget : ℕ) → FitsDescription h slots d → ReplyLaw h (without_words (SolvesDescription h program d)) (mgsat h program slots d budget)
   of_description laws slots d budget fit = record {
     sound = λ x has.
-      let f = has_map show (found_from h program budget (start slots d)).answers x has in
-      subst (λ (z : Shown). IsPartOfSolution (without_words (SolvesDescription h program d)) z) (sym f.2)
+        let f = has_map show (found_from h program budget (start slots d)).answers x has in
+        subst (λ (z : Shown). IsPartOfSolution (without_words (SolvesDescription h program d)) z) (sym f.2)
         (record { solution = f.0.closed.graph; root = node_of f.0.closed 0; solves = (solved f.0 f.1, refl); visible_part = refl });
     complete = λ complete s n ws solves.
-      let describes : Describes h s d n = solves.0.1 in
-      let r = law.complete (finished complete) s n describes.assign (record { root = solves.0.0; nodes = describes.nodes; holds = describes.holds }) in
-      record { answer = show r.0; has = map_has show (found_from h program budget (start slots d)).answers r.0 r.1; words = sym solves.1; subsumes = one_root h r.0.closed.graph s (node_of r.0.closed 0) n r.2.subsumes };
+        let describes : Describes h s d n = solves.0.1 in
+        let r = law.complete (finished complete) s n describes.assign (record { root = solves.0.0; nodes = describes.nodes; holds = describes.holds }) in
+        record { answer = show r.0; has = map_has show (found_from h program budget (start slots d)).answers r.0 r.1; words = sym solves.1; subsumes = one_root h r.0.closed.graph s (node_of r.0.closed 0) n r.2.subsumes };
   }
     where
       law : DescriptionLaw h program slots d budget
@@ -230,8 +232,16 @@ module _ (h : Hierarchy) (program : Program) (accepted : IsAccepted h program) w
 pub reply_laws : DescriptionLaws → GoalLaws → LexiconLaws → ChartLaws → GenerationLaws → ReplyLaws
 reply_laws descriptions goals lexica charts generations extract keep h program accepted part keeps = record {
   descriptions = of_description h program accepted descriptions;
+  enough = λ slots d budget fit direct none few. ap (λ z. z && true) (enough h program slots d budget accepted fit direct none few);
   goals = of_goal h program accepted goals;
   words = of_word h program accepted extract part lexica;
   sentences = λ closing. of_sentence h program accepted extract part lexica closing charts keep keeps;
   generations = λ closing. of_generation h program accepted extract part lexica closing generations;
 }
+
+-- nothing is dropped
+keeps_all : (h : Hierarchy) → KeepLaw h keep_all
+keeps_all h law before x dropped = absurd (let clash : true ≡ false = dropped in cc)
+
+pub whole_reply_laws : ReplyLaws → WholeReplyLaws
+whole_reply_laws replies h program accepted = replies whole_of keep_all h program accepted (whole_part h program) (keeps_all h)

@@ -1,21 +1,21 @@
 -- What the reply to a command has to do with the command's solutions: each answer is the visible part of a solution, and
 -- where the reply is complete each solution is subsumed by an answer. Source: most general satisfiers, Carpenter 1992,
 -- chapters 4, 14 and 15.
-use Rattle.std.specs.Prelude.{◌≡◌, ℕ, true, Option, Some, None, List, [], ◌∷◌, map}
+use Rattle.std.specs.Prelude.{◌≡◌, ℕ, ◌+◌, ◌*◌, ◌≤◌, true, Option, Some, None, List, [], ◌∷◌, map}
 use Rattle.ale_declared.specs.Lists.{Has}
 use Rattle.ale_hierarchy.specs.Hierarchy.{Hierarchy}
 use Rattle.ale_graph.specs.Structures.{Structure}
 use Rattle.ale_graph.specs.Morphisms.{Subsumes}
 use Rattle.ale_morphism.specs.Visible.{visible}
-use Rattle.ale_logic.specs.Descriptions.{Description, IsAssignment, FitsDescription}
+use Rattle.ale_logic.specs.Descriptions.{Description, IsAssignment, FitsDescription, HasNoChoice, parts}
 use Rattle.ale_logic.specs.Goals.{Goal, FitsGoal, IsPlain}
 use Rattle.ale_logic.specs.Programs.{Word, Program}
 use Rattle.ale_logic.specs.Solutions.{SolvesDescription, SolvesGoal, SolvesWord, SolvesSentence, SolvesGeneration}
 use Rattle.ale_logic.specs.Growing.{rooted}
-use Rattle.ale_logic.specs.Parts.{Extract}
+use Rattle.ale_logic.specs.Parts.{Extract, whole_of}
 use Rattle.ale_logic.specs.PartLaws.{PartLaw}
 use Rattle.ale_logic.specs.Lexicons.{lexicon}
-use Rattle.ale_logic.specs.Charts.{Keep}
+use Rattle.ale_logic.specs.Charts.{Keep, keep_all}
 use Rattle.ale_logic.specs.ChartLaws.{KeepLaw}
 use Rattle.ale_logic.specs.Answers.{IsAccepted}
 use Rattle.ale_logic.specs.Shown.{Shown, Reply, mgsat, query, gen, lex, rec}
@@ -75,6 +75,8 @@ pub record QueryReplyLaw (h : Hierarchy) (program : Program) (g : Goal) (printed
 -- the replies to all kinds of commands; those that use words use the lexicon closed within a budget of its own
 pub record RepliesLaw (extract : Extract) (keep : Keep) (h : Hierarchy) (program : Program) : Type 0 where
   pub descriptions : (slots : ℕ) (d : Description) (budget : ℕ) → FitsDescription h slots d → ReplyLaw h (without_words (SolvesDescription h program d)) (mgsat h program slots d budget)
+  -- without disjunction and constraints two visits for each part, and two to spare, are enough
+  pub enough : (slots : ℕ) (d : Description) (budget : ℕ) → FitsDescription h slots d → HasNoChoice d → program.constraints ≡ [] → 2 * parts d + 2 ≤ budget → (mgsat h program slots d budget).complete ≡ true
   pub goals : (slots : ℕ) (g : Goal) (printed : List ℕ) (budget : ℕ) → FitsGoal h slots g → IsPlain g → QueryReplyLaw h program g printed (query h program slots g printed budget)
   pub words : (closing : ℕ) (w : Word) → ReplyLaw h (without_words (SolvesWord h program w)) (lex (lexicon extract h program closing) w)
   pub sentences : (closing : ℕ) (sentence : List Word) (budget : ℕ) →
@@ -84,3 +86,7 @@ pub record RepliesLaw (extract : Extract) (keep : Keep) (h : Hierarchy) (program
 
 abbrev pub ReplyLaws : Type 0
 ReplyLaws = (extract : Extract) (keep : Keep) (h : Hierarchy) (program : Program) → IsAccepted h program → PartLaw h program extract → KeepLaw h keep → RepliesLaw extract keep h program
+
+-- where all of an answer is kept, and every item of a chart, nothing is owed
+abbrev pub WholeReplyLaws : Type 0
+WholeReplyLaws = (h : Hierarchy) (program : Program) → IsAccepted h program → RepliesLaw whole_of keep_all h program

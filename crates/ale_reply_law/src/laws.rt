@@ -1,5 +1,5 @@
 ghost use Rattle.ale_reply_law.specs.Marks.{MarksLaws};
-ghost use Rattle.ale_reply_law.specs.Replies.{ReplyLaws};
+ghost use Rattle.ale_reply_law.specs.Replies.{ReplyLaws, WholeReplyLaws};
 
 use ale_graph::closure_law;
 use ale_morphism::visible_laws;
@@ -7,10 +7,12 @@ use ale_morphism::visible_laws;
 /// What the reply to each kind of command has to do with the command's solutions, for an accepted program inside
 /// the fragment, whatever is kept of answers and whichever items of a chart are kept: each answer is the visible
 /// part of a solution, root for root and with its words; where the reply is complete, each solution is subsumed
-/// by an answer, root to root and with the same words. Source: most general satisfiers, Carpenter 1992,
+/// by an answer, root to root and with the same words. Where all of an answer and every item are kept, nothing
+/// else is asked. Source: most general satisfiers, Carpenter 1992,
 /// chapters 4, 14 and 15.
 pub fn reply_law()
-    ensures { ReplyLaws }
+    ensures replies { ReplyLaws }
+    ensures whole { WholeReplyLaws }
 {
     closure_law();
     visible_laws();

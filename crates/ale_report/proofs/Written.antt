@@ -33,7 +33,7 @@ one_root s n m i is e = go i (ap (λ (z : List (Option ℕ)). get_or z i None) (
     go zero e = sym (some_one e)
     go (suc i) e = absurd (none_some e)
 
-module _ (h : Hierarchy) (law : IsLawful h) (d : Description) (plain : HasNoInequation d) (c : Answer) (is : IsAnswer h empty_program d c) where
+module _ (h : Hierarchy) (law : IsLawful h) (d : Description) (c : Answer) (is : IsAnswer h empty_program d c) where
   structure : IsStructure h (rooted c.closed)
   structure = (printed h d c is).structure
 
@@ -61,7 +61,7 @@ module _ (h : Hierarchy) (law : IsLawful h) (d : Description) (plain : HasNoIneq
       at (suc i) m e = absurd (none_some e)
 
   -- what it subsumes is a satisfier
-  module _ (s : Structure) (n : ℕ) (is_s : IsStructure h s) (roots : s.roots ≡ Some n ∷ []) (sub : Subsumes h (written c) s) where
+  module _ (plain : HasNoInequation d) (s : Structure) (n : ℕ) (is_s : IsStructure h s) (roots : s.roots ≡ Some n ∷ []) (sub : Subsumes h (written c) s) where
     to : ℕ → ℕ
     to a = sub.map (renumbered (rooted c.closed) a)
 
@@ -125,20 +125,20 @@ module _ (h : Hierarchy) (law : IsLawful h) (d : Description) (plain : HasNoIneq
   pub written_structure : IsStructure h (written c)
   written_structure = visible_structure h (rooted c.closed) structure
 
-  pub written_satisfier : IsSatisfier h d (written c)
-  written_satisfier =
-      subsumed_satisfier (written c) (renumbered (rooted c.closed) (node_of c.closed 0)) written_structure part.roots
+  pub written_satisfier : HasNoInequation d → IsSatisfier h d (written c)
+  written_satisfier plain =
+      subsumed_satisfier plain (written c) (renumbered (rooted c.closed) (node_of c.closed 0)) written_structure part.roots
       (record { map = λ k. k; is = identity h (written c) law written_structure.apart })
 
 pub written_laws : SearchLaws → WrittenLaws
 written_laws searches h slots d budget lawful fits plain =
     let law = searches h slots d budget lawful fits in
     record {
-      sound = λ c has. written_satisfier h lawful d plain c (law.sound c has);
+      sound = λ c has. written_satisfier h lawful d c (law.sound c has) plain;
       complete = λ finished s sat.
           let r = law.complete finished s sat.root sat.assign sat.solves in
-          (r.0, r.1, written_subsumes h lawful d plain r.0 (law.sound r.0 r.1) s r.2.subsumes.map sat.root r.2.subsumes.is r.2.subsumes.root_to sat.root_is);
-      subsumed = λ c has s n is_s roots sub. subsumed_satisfier h lawful d plain c (law.sound c has) s n is_s roots sub;
+          (r.0, r.1, written_subsumes h lawful d r.0 (law.sound r.0 r.1) s r.2.subsumes.map sat.root r.2.subsumes.is r.2.subsumes.root_to sat.root_is);
+      subsumed = λ c has s n is_s roots sub. subsumed_satisfier h lawful d c (law.sound c has) plain s n is_s roots sub;
     }
 
 -- there are no more visible nodes than nodes

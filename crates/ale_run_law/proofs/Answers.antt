@@ -90,8 +90,7 @@ module _ (runs : RunLaws) (h : Hierarchy) (program : Program) (accepted : IsAcce
           items = (solves.holds, refl);
         } in
         let r = found_at (start slots d) starts (tt, tt) budget fin s solves.root.model sense sat in
-        let next = (came (start slots d) starts (tt, tt) budget r.answer r.has).is.next in
-        (
+        let next = (came (start slots d) starts (tt, tt) budget r.answer r.has).is.next in (
           r.answer,
           r.has,
           record {

@@ -7,6 +7,7 @@ use Rattle.ale_logic.specs.Words.{Grammar}
 use Rattle.ale_logic.specs.States.{State}
 use Rattle.ale_logic.specs.Spelling.{spelled}
 use Rattle.ale_logic.specs.Visits.{Answer}
+use Rattle.ale_logic.specs.Steps.{IsBrought}
 use Rattle.ale_logic.specs.Runs.{MeetsPairs, FreeSense, Returns, IsAnswer, RunLaws}
 use Rattle.ale_logic.specs.ModelLaws.{MeetsBrought, IsPlainStart, ModelLaws}
 use Rattle.ale_extension_law.proofs.Spells.{spelling_law}
@@ -21,10 +22,10 @@ own_sense gr st a is start = record {
   is_said = (spelling_law gr.signature a.state is.is (is.once start.is.once)).spelled_as;
 }
 
-met : (gr : Grammar) (s : Structure) (st : State) (a : Answer) (free : FreeSense s a) → Returns gr s st a (λ n. n) free → MeetsPairs gr s (node_of a.closed) st.imposed → MeetsBrought gr s → MeetsPairs gr s (node_of a.closed) a.state.imposed
-met gr s st a free r given brought n k has = elim (r.accounted (n, k) has) [
+met : (gr : Grammar) (st : State) (a : Answer) (free : FreeSense a.closed.graph a) → Returns gr a.closed.graph st a (λ n. n) free → MeetsPairs gr a.closed.graph (node_of a.closed) st.imposed → MeetsBrought gr a → MeetsPairs gr a.closed.graph (node_of a.closed) a.state.imposed
+met gr st a free r given brought n k has = elim (r.accounted (n, k) has) [
   | inl first ↦ given n k first
-  | inr later ↦ subst (MeetsAt gr.signature gr.program s k) (r.node n) (elim later [ inl e ↦ e | inr b ↦ brought _ k b ])
+  | inr later ↦ elim later [ inl e ↦ subst (MeetsAt gr.signature gr.program a.closed.graph k) (r.node n) e | inr b ↦ brought n k has (subst (λ m. IsBrought gr a.closed.graph m k) (r.node n) b) ]
 ]
 
 pub model_law : RunLaws → ModelLaws
@@ -33,4 +34,4 @@ model_law runs gr first budget grammar starts a has =
     let start : IsPlainStart gr c.state = starts c.state c.has in
     let free : FreeSense a.closed.graph a = own_sense gr c.state a c.is start in
     let r = c.back start.inside a.closed.graph (λ n. n) (record { structure = c.is.structure; is = stands gr.signature grammar.lawful a.closed.graph c.is.structure }) free in
-    record { state = c.state; has = c.has; model = λ given brought. c.is.model (met gr a.closed.graph c.state a free r given brought) }
+    record { state = c.state; has = c.has; model = λ given brought. c.is.model (met gr c.state a free r given brought) }

@@ -13,8 +13,8 @@ use crate::running::{Input, report_on};
 use crate::status::Status;
 use ale_base::{Files, ReadError, Sink, read_all, write_all};
 use ale_load::{FILE_LIMIT, commands_law, load_law};
-use ale_search::search_law;
 use ale_report::written_law;
+use ale_search::search_law;
 use std::alloc::Global;
 
 const USAGE: &str = "usage: ale [--budget N] GRAMMAR COMMANDS | ale [--budget N] --made N\n";

@@ -55,9 +55,9 @@ append a b c = call 0 (more a (more b (more c none)))
 abbrev pub appending : Program
 appending = record bare {
   preds =
-    (record { args = more (of_type e_list) (more X (more X none)); body = yes; slots = 1 }
-    ∷ record { args = more (cell X (slot 1)) (more (slot 2) (more (cell X (slot 3)) none)); body = append (slot 1) (slot 2) (slot 3); slots = 4 }
-    ∷ []) ∷ [];
+      (record { args = more (of_type e_list) (more X (more X none)); body = yes; slots = 1 }
+      ∷ record { args = more (cell X (slot 1)) (more (slot 2) (more (cell X (slot 3)) none)); body = append (slot 1) (slot 2) (slot 3); slots = 4 }
+      ∷ []) ∷ [];
 }
 
 -- `sign cons (sem:X) goal ok(X). np cons (sem:kim).`

@@ -49,9 +49,9 @@ abbrev pub Append : Type 0
 Append =
     seen (query sample appending 2 (append X (slot 1) (cell (of_type kim) (of_type e_list))) (0 ∷ 1 ∷ []) 300)
     ≡ complete
-      (record { words = []; structure = record { nodes = node e_list [] ∷ node ne_list ((hd, 2) ∷ (tl, 0) ∷ []) ∷ node kim [] ∷ []; differ = []; roots = Some 0 ∷ Some 1 ∷ [] } }
-      ∷ record { words = []; structure = record { nodes = node ne_list ((hd, 2) ∷ (tl, 1) ∷ []) ∷ node e_list [] ∷ node kim [] ∷ []; differ = []; roots = Some 0 ∷ Some 1 ∷ [] } }
-      ∷ []) 52
+    (record { words = []; structure = record { nodes = node e_list [] ∷ node ne_list ((hd, 2) ∷ (tl, 0) ∷ []) ∷ node kim [] ∷ []; differ = []; roots = Some 0 ∷ Some 1 ∷ [] } }
+    ∷ record { words = []; structure = record { nodes = node ne_list ((hd, 2) ∷ (tl, 1) ∷ []) ∷ node e_list [] ∷ node kim [] ∷ []; differ = []; roots = Some 0 ∷ Some 1 ∷ [] } }
+    ∷ []) 52
 
 -- `ok(X), !`
 abbrev pub FirstOnly : Type 0
