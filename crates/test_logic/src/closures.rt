@@ -1,7 +1,6 @@
 //! Closures of facts, visible parts, and subsumption.
 use crate::closing::closed_text;
 use crate::graphs::push_graph;
-use crate::written::grammar_of;
 use ale_graph::{Closed, Graph};
 use ale_morphism::{is_rooted, subsumes, types_inside, visible};
 use ale_signature::{Row, Signature};
@@ -27,19 +26,11 @@ fn push_closure(
 }
 
 /// The closure of the facts of a text.
-fn closure(alloc: Global, sig: &Signature, text: &str) -> Result<String, AllocError> {
+pub fn closure(alloc: Global, sig: &Signature, text: &str) -> Result<String, AllocError> {
     let closed = closed_text(alloc, sig, text)?;
     let mut out = String::new(alloc);
     push_closure(sig, &closed, &mut out)?;
     Ok(out)
-}
-
-/// The closure of the facts of a text over a grammar.
-pub fn closure_of(alloc: Global, grammar: &str, text: &str) -> Result<String, AllocError> {
-    match &grammar_of(alloc, grammar) {
-        Ok(loaded) => closure(alloc, &loaded.signature, text),
-        Err(_) => String::from_str(alloc, "no grammar\n"),
-    }
 }
 
 /// The closure's graph with one root; None where it has no such node.
@@ -94,25 +85,12 @@ fn push_visible(
     }
 }
 
-/// The same of the closure of the facts of a text.
-fn seen(alloc: Global, sig: &Signature, text: &str, root: &str) -> Result<String, AllocError> {
+/// Whether the root of the closure of the facts of a text reaches all nodes, and what is visible of it.
+pub fn seen(alloc: Global, sig: &Signature, text: &str, root: &str) -> Result<String, AllocError> {
     let graph = graph_of(alloc, sig, text, root)?;
     let mut out = String::new(alloc);
     push_visible(alloc, sig, &graph, &mut out)?;
     Ok(out)
-}
-
-/// The same over a grammar.
-pub fn visible_of(
-    alloc: Global,
-    grammar: &str,
-    text: &str,
-    root: &str,
-) -> Result<String, AllocError> {
-    match &grammar_of(alloc, grammar) {
-        Ok(loaded) => seen(alloc, &loaded.signature, text, root),
-        Err(_) => String::from_str(alloc, "no grammar\n"),
-    }
 }
 
 /// Where the nodes of one graph go in the other, if it subsumes that; no nodes where what the call asks for does not
@@ -158,25 +136,22 @@ fn push_sent(sent: &Option<Vec<usize>>, out: &mut String) -> Result<(), AllocErr
     }
 }
 
-/// Where the nodes of the closure of the one text's facts go in that of the other's; both have the root 0.
-fn sent(alloc: Global, sig: &Signature, from: &str, to: &str) -> Result<String, AllocError> {
-    let from = graph_of(alloc, sig, from, "0")?;
+/// Where the nodes of a graph go in that of the closure of a text's facts.
+fn sent_from(
+    alloc: Global,
+    sig: &Signature,
+    from: &Option<Graph>,
+    to: &str,
+) -> Result<String, AllocError> {
     let to = graph_of(alloc, sig, to, "0")?;
-    let map = send_there(alloc, sig, &from, &to)?;
+    let map = send_there(alloc, sig, from, &to)?;
     let mut out = String::new(alloc);
     push_sent(&map, &mut out)?;
     Ok(out)
 }
 
-/// The same over a grammar.
-pub fn subsumes_of(
-    alloc: Global,
-    grammar: &str,
-    from: &str,
-    to: &str,
-) -> Result<String, AllocError> {
-    match &grammar_of(alloc, grammar) {
-        Ok(loaded) => sent(alloc, &loaded.signature, from, to),
-        Err(_) => String::from_str(alloc, "no grammar\n"),
-    }
+/// Where the nodes of the closure of the one text's facts go in that of the other's; both have the root 0.
+pub fn sent(alloc: Global, sig: &Signature, from: &str, to: &str) -> Result<String, AllocError> {
+    let from = graph_of(alloc, sig, from, "0")?;
+    sent_from(alloc, sig, &from, to)
 }

@@ -1,6 +1,9 @@
 //! What descriptions mean, and what searches for them find.
+ghost use Rattle.ale_hierarchy.specs.Order.{hierarchy};
+ghost use Rattle.ale_logic.specs.Descriptions.{description, FitsDescription};
+
 use crate::graphs::{feature_name, push_graph, type_name};
-use crate::written::{grammar_of, term_of};
+use crate::written::{budget_of, term_of};
 use ale_graph::Graph;
 use ale_logic::{Answer, Desc};
 use ale_resolve::{Described, NameError, describe, has_few_parts, is_plain};
@@ -44,6 +47,10 @@ fn push_desc(sig: &Signature, desc: &Desc, out: &mut String) -> Result<(), Alloc
             for part in parts.as_slice() {
                 push_desc(sig, part, out)?;
             }
+        }
+        Desc::Differs(other) => {
+            out.push_str("differs")?;
+            push_desc(sig, other.get(), out)?;
         }
         Desc::Meet(left, right) => {
             out.push_str("meet")?;
@@ -112,21 +119,13 @@ fn push_term(
 }
 
 /// What the description that a text is means.
-fn meaning(alloc: Global, sig: &Signature, text: &str) -> Result<String, AllocError> {
+pub fn meaning(alloc: Global, sig: &Signature, text: &str) -> Result<String, AllocError> {
     let mut out = String::new(alloc);
     match &term_of(alloc, text)? {
         Some(term) => push_term(alloc, sig, term, &mut out)?,
         None => out.push_str("no description\n")?,
     }
     Ok(out)
-}
-
-/// The same over a grammar.
-pub fn meaning_of(alloc: Global, grammar: &str, text: &str) -> Result<String, AllocError> {
-    match &grammar_of(alloc, grammar) {
-        Ok(loaded) => meaning(alloc, &loaded.signature, text),
-        Err(_) => String::from_str(alloc, "no grammar\n"),
-    }
 }
 
 /// Writes an answer of a search: its structure, and the nodes of the variables.
@@ -157,6 +156,20 @@ fn push_found(sig: &Signature, found: &Found, out: &mut String) -> Result<(), Al
     write!(out, "{visits} visits, {word}\n")
 }
 
+/// Writes what a search for a description finds.
+fn push_search_for(
+    alloc: Global,
+    sig: &Signature,
+    desc: &Desc,
+    slots: usize,
+    budget: u64,
+    out: &mut String,
+) -> Result<(), AllocError>
+    requires { FitsDescription (hierarchy sig.now) slots (description desc.now) }
+{
+    push_found(sig, &find(alloc, sig, desc, slots, budget)?, out)
+}
+
 /// Writes what a search for a written description finds.
 fn push_search(
     alloc: Global,
@@ -168,35 +181,27 @@ fn push_search(
     if !is_plain(term) || !has_few_parts(term) {
         return out.push_str("not built\n");
     }
-    match describe(alloc, sig, term) {
+    match &describe(alloc, sig, term) {
         Ok(found) => {
             let slots = found.slots as usize;
-            push_found(sig, &find(alloc, sig, &found.desc, slots, budget)?, out)
+            push_search_for(alloc, sig, &found.desc, slots, budget, out)
         }
         Err(_) => out.push_str("no meaning\n"),
     }
 }
 
-/// What a search for the description that a text is finds.
-fn search(alloc: Global, sig: &Signature, text: &str, budget: u64) -> Result<String, AllocError> {
+/// What a search for the description that a text is finds, with a budget that is written.
+pub fn search(
+    alloc: Global,
+    sig: &Signature,
+    text: &str,
+    budget: &str,
+) -> Result<String, AllocError> {
+    let budget = budget_of(budget);
     let mut out = String::new(alloc);
     match &term_of(alloc, text)? {
         Some(term) => push_search(alloc, sig, term, budget, &mut out)?,
         None => out.push_str("no description\n")?,
     }
     Ok(out)
-}
-
-/// The same over a grammar, with a budget that is written.
-pub fn search_of(
-    alloc: Global,
-    grammar: &str,
-    text: &str,
-    budget: &str,
-) -> Result<String, AllocError> {
-    let budget = budget.parse::<u64>().unwrap_or(0);
-    match &grammar_of(alloc, grammar) {
-        Ok(loaded) => search(alloc, &loaded.signature, text, budget),
-        Err(_) => String::from_str(alloc, "no grammar\n"),
-    }
 }

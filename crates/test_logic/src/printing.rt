@@ -6,7 +6,7 @@ ghost use Rattle.ale_graph.specs.Structures.{IsStructure, is_root};
 ghost use Rattle.ale_declared.specs.Lists.{every};
 
 use crate::closing::closed_text;
-use crate::written::{grammar_of, term_of};
+use crate::written::{budget_of, term_of};
 use ale_graph::{Closed, Graph};
 use ale_print::{print_answer, print_name};
 use ale_report::push_command;
@@ -101,7 +101,7 @@ fn printed_graph(
 }
 
 /// The text of the closure of facts, with these roots and their names.
-fn printed(
+pub fn printed(
     alloc: Global,
     sig: &Signature,
     facts: &str,
@@ -113,20 +113,6 @@ fn printed(
     match graph_of(alloc, sig, facts)? {
         Some(graph) => printed_graph(alloc, sig, graph, roots, names.as_slice()),
         None => String::from_str(alloc, "no closure\n"),
-    }
-}
-
-/// The same over a grammar.
-pub fn structure_of(
-    alloc: Global,
-    grammar: &str,
-    facts: &str,
-    roots: &str,
-    names: &str,
-) -> Result<String, AllocError> {
-    match &grammar_of(alloc, grammar) {
-        Ok(loaded) => printed(alloc, &loaded.signature, facts, roots, names),
-        Err(_) => String::from_str(alloc, "no grammar\n"),
     }
 }
 
@@ -142,17 +128,24 @@ fn push_part(
     if !is_plain(term) || !has_few_parts(term) {
         return Ok(None);
     }
-    match describe(alloc, sig, term) {
+    match &describe(alloc, sig, term) {
         Ok(found) => {
             let slots = found.slots as usize;
-            Ok(Some(push_command(alloc, out, sig, 7, &found.desc, slots, budget)?))
+            let ended = push_command(alloc, out, sig, 7, &found.desc, slots, budget)?;
+            Ok(Some(ended))
         }
         Err(_) => Ok(None),
     }
 }
 
-/// The part of the command after a first line, and how its search ended.
-fn part(alloc: Global, sig: &Signature, text: &str, budget: u64) -> Result<String, AllocError> {
+/// The part of the command after a first line, and how its search ended, with a budget that is written.
+pub fn part(
+    alloc: Global,
+    sig: &Signature,
+    text: &str,
+    budget: &str,
+) -> Result<String, AllocError> {
+    let budget = budget_of(budget);
     let mut out = String::from_str(alloc, "before\n")?;
     let ended = match &term_of(alloc, text)? {
         Some(term) => push_part(alloc, sig, term, budget, &mut out)?,
@@ -164,18 +157,4 @@ fn part(alloc: Global, sig: &Signature, text: &str, budget: u64) -> Result<Strin
         None => "no part\n",
     })?;
     Ok(out)
-}
-
-/// The same over a grammar, with a budget that is written.
-pub fn part_of(
-    alloc: Global,
-    grammar: &str,
-    text: &str,
-    budget: &str,
-) -> Result<String, AllocError> {
-    let budget = budget.parse::<u64>().unwrap_or(0);
-    match &grammar_of(alloc, grammar) {
-        Ok(loaded) => part(alloc, &loaded.signature, text, budget),
-        Err(_) => String::from_str(alloc, "no grammar\n"),
-    }
 }

@@ -3,9 +3,13 @@ use ale_declared::Outline;
 use ale_signature::{Row, SigDecl, SigError, Signature, Text};
 use std::alloc::{AllocError, Global};
 
-/// A text of these characters.
+/// A text of these characters, with a space in place of each `~`.
 fn text(alloc: Global, characters: &str) -> Result<Text, AllocError> {
-    Ok(Text::of(String::from_str(alloc, characters)?))
+    let mut text = String::new(alloc);
+    for character in characters.chars() {
+        text.push(if character == '~' { ' ' } else { character })?;
+    }
+    Ok(Text::of(text))
 }
 
 /// The subtypes among the words: those without `:`.
@@ -19,12 +23,18 @@ fn subtypes(alloc: Global, words: &str) -> Result<Row<Text>, AllocError> {
     Ok(Row::of(subs))
 }
 
+/// A feature with its restriction.
+fn feature(alloc: Global, feature: &str, of: &str) -> Result<(Text, Text), AllocError> {
+    let feature = text(alloc, feature)?;
+    Ok((feature, text(alloc, of)?))
+}
+
 /// The features among the words with their restrictions: `FEATURE:TYPE`.
 fn features(alloc: Global, words: &str) -> Result<Row<(Text, Text)>, AllocError> {
     let mut intros = Vec::new(alloc);
     for word in words.split(' ') {
-        if let Some((feature, of)) = word.split_once(':') {
-            intros.push((text(alloc, feature)?, text(alloc, of)?))?;
+        if let Some((name, of)) = word.split_once(':') {
+            intros.push(feature(alloc, name, of)?)?;
         }
     }
     Ok(Row::of(intros))
@@ -46,7 +56,7 @@ fn declaration(alloc: Global, name: &str, words: &str) -> Result<SigDecl, AllocE
 }
 
 /// The declarations of a text, with `, ` between them.
-fn declarations(alloc: Global, text: &str) -> Result<Vec<SigDecl>, AllocError> {
+pub fn declarations(alloc: Global, text: &str) -> Result<Vec<SigDecl>, AllocError> {
     let mut decls = Vec::new(alloc);
     for part in text.split(", ") {
         if let Some((name, words)) = part.split_once(' ') {

@@ -29,6 +29,12 @@ fn ending(alloc: Global, answer: &str) -> Result<String, AllocError> {
     format!(in alloc; "{before}\n{last}\n")
 }
 
+/// The end of what commands over a grammar answer.
+fn end_of_run(alloc: Global, grammar: &str, commands: &str) -> Result<String, AllocError> {
+    let answer = run_texts(alloc, grammar, commands)?;
+    ending(alloc, answer.as_str())
+}
+
 /// The program over memory.
 struct Program;
 
@@ -41,10 +47,7 @@ impl Room for Program {
             "load" => loaded(alloc, first),
             "read" => commands_of(alloc, first, second),
             "run" => run_texts(alloc, first, second),
-            "end of run" => {
-                let answer = run_texts(alloc, first, second)?;
-                ending(alloc, answer.as_str())
-            }
+            "end of run" => end_of_run(alloc, first, second),
             "grammar" => run_texts(alloc, first, ""),
             "commands" => run_texts(alloc, "a sub [].", first),
             "words" => run_words(alloc, first, second, third),

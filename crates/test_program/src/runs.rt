@@ -9,6 +9,17 @@ use test_support::bytes_of;
 /// The room of a sink, in bytes.
 const ROOM: usize = 4_194_304;
 
+/// Adds a file of this name with the bytes of a text.
+fn add_file(
+    alloc: Global,
+    files: &mut MemoryFiles,
+    name: &str,
+    text: &str,
+) -> Result<(), AllocError> {
+    let bytes = bytes_of(alloc, text)?;
+    files.add(name, bytes.as_slice())
+}
+
 /// The texts of the grammar and of the commands, as files.
 fn files_of(
     alloc: Global,
@@ -17,10 +28,8 @@ fn files_of(
     failing: Vec<u64>,
 ) -> Result<MemoryFiles, AllocError> {
     let mut files = MemoryFiles::new(alloc, failing);
-    let bytes = bytes_of(alloc, grammar)?;
-    files.add("g", bytes.as_slice())?;
-    let bytes = bytes_of(alloc, commands)?;
-    files.add("c", bytes.as_slice())?;
+    add_file(alloc, &mut files, "g", grammar)?;
+    add_file(alloc, &mut files, "c", commands)?;
     Ok(files)
 }
 
@@ -36,7 +45,7 @@ fn words_of(alloc: Global, line: &str) -> Result<Vec<String>, AllocError> {
 }
 
 /// The numbers of calls, with a space between them; what is no number is left out.
-pub fn numbers_of(alloc: Global, text: &str) -> Result<Vec<u64>, AllocError> {
+fn numbers_of(alloc: Global, text: &str) -> Result<Vec<u64>, AllocError> {
     let mut numbers = Vec::new(alloc);
     for word in text.split(' ') {
         if let Ok(number) = word.parse::<u64>() {

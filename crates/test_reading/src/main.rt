@@ -5,7 +5,6 @@
 mod commands;
 mod declarations;
 mod forms;
-mod show_forms;
 mod show_terms;
 mod terms;
 mod tokens;
