@@ -55,3 +55,10 @@ module _ (d : Declared) (budget : ℕ) (qs : List Described) (i : ℕ) (q : Desc
       go : (p ≡ query_data q) ⊎ Has (map query_data (drop (i + 1) qs)) p → Has (map query_data (drop (i + 1) qs)) p ⊎ AreCountable (search_for d budget p).answers
       go (inl e) = inr (subst (λ (z : Query). AreCountable (search_for d budget z).answers) (sym e) now)
       go (inr k) = inl k
+
+-- what a short-circuit of two tests comes to
+pub and_then : (a b f : Bool) → a ≡ true → f ≡ b → f ≡ (a && b)
+and_then a b f e h = h ∙ ap (λ (z : Bool). z && b) (sym e)
+
+pub and_else : (a b f : Bool) → a ≡ false → f ≡ false → f ≡ (a && b)
+and_else a b f e h = h ∙ ap (λ (z : Bool). z && b) (sym e)

@@ -1,12 +1,15 @@
--- What is refused is not accepted.
-use Rattle.std.proofs.Common.{◌≡◌, ◌∙◌, sym, refl, List, Result, Ok, Err}
+-- A grammar that is refused is not accepted, and its output is that of its refusal.
+use Rattle.std.proofs.Common.{◌≡◌, ◌∙◌, ℕ, sym, ap, subst, refl, List, Result, Ok, Err, IfOk, OnOk}
 use Rattle.ale_load.specs.declared.grammar_error.GrammarError.{GrammarError}
 use Rattle.ale_load.specs.declared.grammar_error.GrammarError.TheVariants as grammar
-use Rattle.ale_load.specs.declared.command_error.CommandError.{CommandError}
-use Rattle.ale_load.specs.declared.command_error.CommandError.TheVariants as command
-use Rattle.ale_load.specs.Grammars.{LoadedData}
-use Rattle.ale_load.specs.Commands.{Query}
-use Rattle.ale_load.specs.Results.{GrammarFails, CommandFails}
+use Rattle.ale_load.specs.Grammars.{LoadedData, load_of}
+use Rattle.ale_load.specs.Results.{GrammarFails}
+use Rattle.ale_top.specs.declared.report.Report.{Report}
+use Rattle.ale_top.specs.declared.status.Status.TheVariants.{Grammar}
+use Rattle.ale_top.specs.Lines.{grammar_line}
+use Rattle.ale_top.specs.Output.{Ending, after_grammar, outcome}
+use Rattle.ale_top.specs.Reports.{report_of, AreCountedIn}
+use Rattle.ale_top.specs.Runs.{IsReported}
 
 no_ok : {A E : Type 0} {a : A} {e : E} → Ok a ≡ Err e → ⊥
 no_ok e = absurd cc
@@ -20,12 +23,26 @@ not_loaded (grammar.Form k e) r f some l is = no_ok (sym is ∙ f)
 not_loaded (grammar.NotBuilt k) r f some l is = no_ok (sym is ∙ f)
 not_loaded (grammar.Signature e) r f some l is = no_ok (sym is ∙ f)
 
-pub not_taken : (e : CommandError) (r : Result (List Query) CommandError) → CommandFails e r → (e ≡ command.NoMemory → ⊥) → (qs : List Query) → r ≡ Ok qs → ⊥
-not_taken command.NoMemory r f some qs is = some refl
-not_taken command.TooLong r f some qs is = no_ok (sym is ∙ f)
-not_taken (command.NotText p) r f some qs is = no_ok (sym is ∙ f)
-not_taken (command.BadToken p) r f some qs is = no_ok (sym is ∙ f)
-not_taken (command.NoEnd p) r f some qs is = no_ok (sym is ∙ f)
-not_taken (command.BadCommand k) r f some qs is = no_ok (sym is ∙ f)
-not_taken (command.NotBuilt k) r f some qs is = no_ok (sym is ∙ f)
-not_taken (command.Name k e) r f some qs is = no_ok (sym is ∙ f)
+-- the output that is defined of a grammar that is refused
+refused_outcome : (e : GrammarError) (g c : List ℕ) (budget : ℕ) → GrammarFails e (load_of g) → (e ≡ grammar.NoMemory → ⊥) → ◌≡◌ {A = Ending} (Grammar, grammar_line e) (outcome g c budget)
+refused_outcome grammar.NoMemory g c budget f some = absurd (some refl)
+refused_outcome grammar.TooLong g c budget f some = sym (ap (after_grammar c budget) f)
+refused_outcome (grammar.NotText p) g c budget f some = sym (ap (after_grammar c budget) f)
+refused_outcome (grammar.Token e) g c budget f some = sym (ap (after_grammar c budget) f)
+refused_outcome (grammar.Form k e) g c budget f some = sym (ap (after_grammar c budget) f)
+refused_outcome (grammar.NotBuilt k) g c budget f some = sym (ap (after_grammar c budget) f)
+refused_outcome (grammar.Signature e) g c budget f some = sym (ap (after_grammar c budget) f)
+
+pub refused_report : {E : Type 0} (r : Result Report E) (e : GrammarError) (g c : List ℕ) (budget : ℕ) → OnOk r (e ≡ grammar.NoMemory → ⊥)
+    → IfOk r (λ x. ◌≡◌ {A = Ending} (report_of x) (Grammar, grammar_line e)) → GrammarFails e (load_of g) → IfOk r (λ x. ◌≡◌ {A = Ending} (report_of x) (outcome g c budget))
+refused_report (Ok x) e g c budget some is f = is ∙ refused_outcome e g c budget f some
+refused_report (Err x) e g c budget some is f = tt
+
+pub refused_kind : {E : Type 0} (r : Result Report E) → IfOk r (λ x. x.status ≡ Grammar) → IfOk r (λ x. IsReported x.status)
+refused_kind (Ok x) e = subst IsReported (sym e) tt
+refused_kind (Err x) e = tt
+
+pub refused_counted : {E : Type 0} (r : Result Report E) (e : GrammarError) (g c : List ℕ) (budget : ℕ) → OnOk r (e ≡ grammar.NoMemory → ⊥)
+    → GrammarFails e (load_of g) → OnOk r (AreCountedIn g c budget)
+refused_counted (Ok x) e g c budget some f = λ l is. absurd (not_loaded e (load_of g) f some l is)
+refused_counted (Err x) e g c budget some f = tt

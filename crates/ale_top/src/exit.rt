@@ -1,6 +1,6 @@
 //! The exit status of the process.
 ghost use Rattle.std.specs.Prelude.{◌≡◌, ◌≢◌, Some, IfOk, IfErr, drop, map, string_bytes};
-ghost use Rattle.std.specs.Io.{error_kind};
+ghost use Rattle.std.specs.IoError.{error_kind};
 ghost use Rattle.ale_top.specs.Exits.{Exits};
 ghost use Rattle.ale_top.specs.Jobs.{Job, job_of};
 ghost use Rattle.ale_top.specs.Runs.{default_budget};

@@ -30,11 +30,15 @@ pub enum Input {
     TooLong,
 }
 
-// The report on a grammar that is refused.
+// The report on a grammar that is refused; where memory ran out there is none.
 fn grammar_refused(alloc: Global, error: &GrammarError) -> Result<Report, AllocError>
+    ensures some { OnOk result (error.now ≢ grammar.NoMemory) }
     ensures report { IfOk result (λ r. report_of r ≡ (Status.Grammar, grammar_line error.now)) }
     ensures status { IfOk result (λ r. r.status ≡ Status.Grammar) }
 {
+    if let GrammarError::NoMemory = error {
+        return Err(AllocError);
+    }
     let mut text = String::new(alloc);
     push_grammar_line(alloc, &mut text, error)?;
     Ok(Report {
@@ -159,7 +163,6 @@ pub fn report_on(
 {
     match load_input(alloc, grammar) {
         Ok(loaded) => report_commands(alloc, &loaded, commands, budget),
-        Err(GrammarError::NoMemory) => Err(AllocError),
         Err(error) => grammar_refused(alloc, &error),
     }
 }

@@ -5,7 +5,7 @@ use Rattle.ale_top.proofs.exit.exit_number.Goals as goal
 
 pub returns-in-Ok-clause-run : goal.returns-in-Ok-clause-run
 returns-in-Ok-clause-run g c =
-    subst (λ (w : List (List ℕ)). Exits c.number.result w default_budget (g.F.Files.content c.args.files.now)
+    rw c.in-Ok.is (subst (λ (w : List (List ℕ)). Exits c.number.result w default_budget (g.F.Files.content c.args.files.now)
     (record { before = g.F.Files.faults c.args.files.now; after = g.F.Files.faults c.run.new.files })
     (record { before = g.W.Sink.faults c.args.out.now; after = g.W.Sink.faults c.run.new.out })
     (g.W.Sink.written c.args.out.now) (g.W.Sink.written c.run.new.out))
@@ -20,4 +20,4 @@ returns-in-Ok-clause-run g c =
       read_fault = c.run.ensures.read_fault;
       write_fault = c.run.ensures.write_fault;
       unread = c.run.ensures.unread;
-    })
+    }))
