@@ -18,14 +18,15 @@ use test_support::{Case, Room, try_cases};
 
 /// The last two lines of an answer: the last that was written, and the status.
 fn ending(alloc: Global, answer: &str) -> Result<String, AllocError> {
-    let mut before = "";
-    let mut last = "";
+    let mut before = String::new(alloc);
+    let mut last = String::new(alloc);
     for line in answer.split('\n') {
         if !line.is_empty() {
-            before = last;
-            last = line;
+            before = std::mem::replace(&mut last, String::from_str(alloc, line)?);
         }
     }
+    let before = before.as_str();
+    let last = last.as_str();
     format!(in alloc; "{before}\n{last}\n")
 }
 
