@@ -1,0 +1,11 @@
+pub mod Variables
+pub mod Numbers
+pub mod Known
+pub mod Templating
+pub mod Names
+pub mod Macros
+pub mod Scopes
+pub mod Codes
+pub mod Describing
+pub mod Limits
+pub mod Laws

@@ -1,0 +1,2 @@
+//! The program that declarations make: definitions.
+#![tactic(auto)]

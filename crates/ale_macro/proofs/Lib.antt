@@ -1,0 +1,16 @@
+pub mod Arguments
+pub mod Building
+pub mod Counted
+pub mod Ends
+pub mod Fewer
+pub mod Templates
+pub mod Unfolding
+pub mod Fits
+pub mod Numbers
+pub mod Plain
+pub mod Projected
+pub mod LawsHold
+pub mod Loops
+pub mod Measured
+pub mod Nearly
+pub mod Reached

@@ -1,0 +1,12 @@
+pub mod Templates
+pub mod Expansions
+pub mod Expanding
+pub mod Slots
+pub mod Calls
+pub mod Codes
+pub mod Laws
+pub mod Projections
+pub mod Resting
+pub mod Sizes
+pub mod SizesRest
+pub mod Tables

@@ -1,0 +1,10 @@
+pub mod Prefixes
+pub mod Longer
+pub mod Meaning
+pub mod Complete
+pub mod OneWord
+pub mod Unneeded
+pub mod Spent
+pub mod Steps
+pub mod Growing
+pub mod Written

@@ -1,0 +1,6 @@
+mod Depth
+mod Dependences
+mod Fillings
+mod Grouping
+mod Members
+mod Tables

@@ -1,0 +1,6 @@
+pub mod Answers
+pub mod Calls
+pub mod Entries
+pub mod Groups
+pub mod Orders
+pub mod Searches

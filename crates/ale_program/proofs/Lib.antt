@@ -1,0 +1,3 @@
+pub mod GoalRules
+pub mod PlainParts
+pub mod Keeping

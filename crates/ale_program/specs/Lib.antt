@@ -1,0 +1,4 @@
+pub mod Goals
+pub mod Views
+pub mod Kept
+pub mod Fragment
