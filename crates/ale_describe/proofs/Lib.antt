@@ -1,0 +1,12 @@
+pub mod Numbering
+pub mod Finding
+pub mod Loops
+pub mod Knowing
+pub mod Each
+pub mod Adding
+pub mod Fitting
+pub mod Limiting
+pub mod Declaring
+pub mod MacroLaws
+pub mod PlainDescriptions
+pub mod CallsHaveArities

@@ -7,5 +7,9 @@ pub mod Macros
 pub mod Scopes
 pub mod Codes
 pub mod Describing
+pub mod Declaring
 pub mod Limits
 pub mod Laws
+pub mod Plain
+pub mod Arities
+pub mod PlainLaws

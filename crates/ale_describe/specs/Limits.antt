@@ -1,6 +1,6 @@
 -- How large descriptions may be when all macros and lists are put in: 100,000 parts, nested 4,000 deep; and 4,000,000 parts in
 -- all descriptions of a grammar, or of its commands. Source: this project's own limits.
-use Rattle.std.specs.Prelude.{◌≡◌, ℕ, ◌+◌, ◌≤◌, nat_le, if◌then◌else◌, Option, Some, None, List, [], ◌∷◌, ◌++◌}
+use Rattle.std.specs.Prelude.{ℕ, ◌+◌, ◌≤◌, nat_le, if◌then◌else◌, Option, Some, None, List, [], ◌∷◌, ◌++◌}
 use Rattle.std.specs.Option.{option_map}
 use Rattle.ale_declared.specs.Declarations.{Declared}
 use Rattle.ale_term.specs.Terms.{TermData}

@@ -1,2 +1,17 @@
-//! What written descriptions and goals stand for when their names are looked up, and macros and lists are put in: definitions.
+//! What written descriptions and goals stand for when their names are looked up, and macros and lists are put in.
 #![tactic(auto)]
+
+mod goals;
+mod grammar;
+mod laws;
+mod looking;
+mod names;
+mod scope;
+mod slots;
+mod sums;
+mod templates;
+
+pub use grammar::{macros, macros_law};
+pub use laws::{calls_law, describe_law, limits_law, plain_law};
+pub use names::Names;
+pub use scope::Scope;

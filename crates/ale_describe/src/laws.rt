@@ -1,0 +1,23 @@
+//! What holds of all descriptions and goals that written ones stand for.
+ghost use Rattle.ale_describe.specs.Laws.{DescribeLaw, LimitsLaw};
+ghost use Rattle.ale_describe.specs.PlainLaws.{CallsLaw, PlainLaw};
+
+/// Descriptions and goals fit the signature, with the slots that there are behind them, where the names do.
+pub fn describe_law()
+    ensures { DescribeLaw }
+{}
+
+/// There is a sum of parts exactly where each description and all of them are within the limits.
+pub fn limits_law()
+    ensures { LimitsLaw }
+{}
+
+/// No inequation stands in a description where none is written, and none in a macro's body.
+pub fn plain_law()
+    ensures { PlainLaw }
+{}
+
+/// Each call of a described goal is of a predicate that is there, with as many descriptions as that has arguments.
+pub fn calls_law()
+    ensures { CallsLaw }
+{}
