@@ -1,0 +1,11 @@
+mod Firsts
+mod Adding
+mod Answering
+mod Cycles
+mod Ordering
+mod Unknowing
+mod Misplacing
+mod Measuring
+mod Law
+mod Libraries
+mod Fitted

@@ -27,20 +27,20 @@ abbrev pub AreKnownElements : Declared → VocabularyData → List Element → T
 AreKnownElements d v [] = Unit {0}
 AreKnownElements d v (e ∷ es) = IsKnownElement d v e × AreKnownElements d v es
 
-abbrev pub IsKnownDeclaration : Declared → VocabularyData → DeclarationData → Type 0
-IsKnownDeclaration d v (signature s) = Unit {0}
-IsKnownDeclaration d v (constraint n t g) = AreKnown d v (t ∷ []) × IsKnownSome d v g
-IsKnownDeclaration d v (macro m ps t) = AreKnown d v (t ∷ [])
-IsKnownDeclaration d v (clause p ts g) = AreKnown d v ts × IsKnownSome d v (Some g)
-IsKnownDeclaration d v (word w t) = AreKnown d v (t ∷ [])
-IsKnownDeclaration d v (empty t) = AreKnown d v (t ∷ [])
-IsKnownDeclaration d v (lex_rule n t u g ls) = AreKnown d v (t ∷ []) × AreKnown d v (u ∷ []) × IsKnownSome d v g
-IsKnownDeclaration d v (rule n t es) = AreKnown d v (t ∷ []) × AreKnownElements d v es
-IsKnownDeclaration d v (semantics p) = Unit {0}
-IsKnownDeclaration d v (lex_depth n) = Unit {0}
-IsKnownDeclaration d v (chain_length n) = Unit {0}
-IsKnownDeclaration d v (passed_over n) = Unit {0}
+abbrev pub HasKnownParts : Declared → VocabularyData → DeclarationData → Type 0
+HasKnownParts d v (signature s) = Unit {0}
+HasKnownParts d v (constraint n t g) = AreKnown d v (t ∷ []) × IsKnownSome d v g
+HasKnownParts d v (macro m ps t) = AreKnown d v (t ∷ [])
+HasKnownParts d v (clause p ts g) = AreKnown d v ts × IsKnownSome d v (Some g)
+HasKnownParts d v (word w t) = AreKnown d v (t ∷ [])
+HasKnownParts d v (empty t) = AreKnown d v (t ∷ [])
+HasKnownParts d v (lex_rule n t u g ls) = AreKnown d v (t ∷ []) × AreKnown d v (u ∷ []) × IsKnownSome d v g
+HasKnownParts d v (rule n t es) = AreKnown d v (t ∷ []) × AreKnownElements d v es
+HasKnownParts d v (semantics p) = Unit {0}
+HasKnownParts d v (lex_depth n) = Unit {0}
+HasKnownParts d v (chain_length n) = Unit {0}
+HasKnownParts d v (passed_over n) = Unit {0}
 
-abbrev pub AreKnownDeclarations : Declared → VocabularyData → List DeclarationData → Type 0
-AreKnownDeclarations d v [] = Unit {0}
-AreKnownDeclarations d v (x ∷ xs) = IsKnownDeclaration d v x × AreKnownDeclarations d v xs
+abbrev pub HaveKnownParts : Declared → VocabularyData → List DeclarationData → Type 0
+HaveKnownParts d v [] = Unit {0}
+HaveKnownParts d v (x ∷ xs) = HasKnownParts d v x × HaveKnownParts d v xs
