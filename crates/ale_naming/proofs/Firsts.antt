@@ -59,3 +59,12 @@ tells_at k (Some e) IsFault t f = (
   λ q. (ap (λ (p : Fault). p.0) (sym (same_pair k e f q)), (t f.1).0 (ap (λ (p : Fault). Some p.1) (same_pair k e f q))),
   λ is. ap (λ (n : ℕ). Some (n, e)) (sym is.0) ∙ ap (λ (x : NameError). Some (f.0, x)) (same_error e f.1 ((t f.1).1 is.1)),
 )
+
+-- where nothing is found, neither of the two finds anything
+pub at_none : (k : ℕ) (o : Option NameError) → fault_at k o ≡ None → o ≡ None
+at_none k None e = refl
+at_none k (Some x) e = absurd (some_none (k, x) e)
+
+pub both_none : (o r : Option Fault) → or_else o r ≡ None → (o ≡ None) × (r ≡ None)
+both_none None r e = (refl, e)
+both_none (Some f) r e = absurd (some_none f e)

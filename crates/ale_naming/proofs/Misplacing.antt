@@ -18,9 +18,9 @@ use Rattle.ale_vocabulary.specs.declared.error.NameError.{NameError}
 use Rattle.ale_vocabulary.specs.declared.error.NameError.TheVariants.{MacroTwice, MacroCycle, TwoHeads, NoDaughter, BadDirective}
 use Rattle.ale_naming.specs.declared.earlier.Earlier.{Earlier}
 use Rattle.ale_naming.specs.Places.{places_from}
-use Rattle.ale_naming.specs.Faults.{Fault, heads, has_daughter, greatest_depth, greatest_chain, IsMisplaced, twice, cycle, two_heads, no_daughter, deep, long, again, HasMisplaced}
+use Rattle.ale_naming.specs.Faults.{heads, has_daughter, greatest_depth, greatest_chain, IsMisplaced, twice, cycle, two_heads, no_daughter, deep, long, again, HasMisplaced}
 use Rattle.ale_naming.specs.Rounds.{fault_at, nothing_earlier, came_before, with_macro, after, is_same, fault_if, macro_fault, misplaced, round_two}
-use Rattle.ale_naming.proofs.Firsts.{some_none, same_error, Tells, Finds, finds_none, finds_more, tells_at}
+use Rattle.ale_naming.proofs.Firsts.{some_none, same_error, Tells, Finds, finds_none, finds_more, tells_at, at_none, both_none}
 use Rattle.ale_naming.proofs.Cycles.{IsTheFirst}
 
 -- ---- numbers of keys
@@ -392,10 +392,6 @@ not_yet v cyclic before rest (chain_length n) e i none y = y
 
 -- ---- the round
 
-at_none : (k : ℕ) (o : Option NameError) → fault_at k o ≡ None → o ≡ None
-at_none k None e = refl
-at_none k (Some x) e = absurd (some_none (k, x) e)
-
 pub two_finds : (calls : List (ℕ × ℕ)) (v : VocabularyData) (cyclic : Option ℕ) (k : ℕ) (before xs : List DeclarationData) (e : Earlier) → IsEarlier v before xs e → IsTheFirst calls cyclic → NotYet cyclic e.last_macro →
     Finds (HasMisplaced calls v) (round_two v cyclic k e xs) (places_from k before xs)
 two_finds calls v cyclic k before [] e i f y = finds_none (HasMisplaced calls v)
@@ -404,10 +400,6 @@ two_finds calls v cyclic k before (x ∷ xs) e i f y =
     (record { number = k; before = before; declaration = x }) (places_from (suc k) (before ++ x ∷ []) xs)
     (tells_at k (misplaced v cyclic e x) (IsMisplaced calls v before x) (misplaced_tells calls v cyclic before xs e x i f y))
     (λ none. two_finds calls v cyclic (suc k) (before ++ x ∷ []) xs (after v x e) (goes_on v before xs x e i) f (not_yet v cyclic before xs x e i (at_none k (misplaced v cyclic e x) none) y))
-
-both_none : (o r : Option Fault) → or_else o r ≡ None → (o ≡ None) × (r ≡ None)
-both_none None r e = (refl, e)
-both_none (Some f) r e = absurd (some_none f e)
 
 -- where it finds nothing no macro that is declared leads back to itself
 pub two_over : (v : VocabularyData) (c k : ℕ) (before xs : List DeclarationData) (e : Earlier) → IsEarlier v before xs e → NotYet (Some c) e.last_macro → round_two v (Some c) k e xs ≡ None → length v.macros ≤ c

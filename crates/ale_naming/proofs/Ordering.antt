@@ -4,12 +4,12 @@ use Rattle.std.specs.Prelude.{◌==◌}
 use Rattle.std.specs.List.{filter}
 use Rattle.std.proofs.lemmas.Bool.{cases_Bool, eqb-true, eq-eqb}
 use Rattle.ale_relation.specs.Has.{Has}
-use Rattle.ale_relation.specs.Paths.{Reaches, here, along, Leads}
+use Rattle.ale_relation.specs.Paths.{here, Leads}
 use Rattle.ale_relation.proofs.Paths.{reaches_from_leads}
 use Rattle.ale_declared.specs.Lists.{upto}
 use Rattle.ale_declared.proofs.ListLemmas.{Has-append_left, Has-append_right, Has-append_cases, upto_below, upto_has, Has-filter, filter_has, length-filter-upto-le, length-filter-lt}
 use Rattle.ale_hierarchy.specs.Order.{leads_through}
-use Rattle.ale_hierarchy.proofs.PathLemmas.{Through, edge, step, EndsBelow, leads_through_to, leads_through_from, Leads_through}
+use Rattle.ale_hierarchy.proofs.PathLemmas.{EndsBelow, leads_through_to, leads_through_from, Leads_through, Through_leads}
 use Rattle.ale_order.specs.Orders.{IsCyclic, Distinct, CallsKnown, IsOrder}
 
 distinct_append : (xs ys : List ℕ) → Distinct xs → Distinct ys → ((m : ℕ) → Has xs m → Has ys m → ⊥) → Distinct (xs ++ ys)
@@ -49,12 +49,8 @@ module _ (calls : List (ℕ × ℕ)) (size : ℕ) (ends : EndsBelow calls size) 
   abbrev leads : ℕ → ℕ → Bool
   leads m k = leads_through calls size m k
 
-  through : (a k b : ℕ) → Has {A = ℕ × ℕ} calls (a, k) → Reaches calls k b → Through calls size a b
-  through a k b e (here _) = edge a k e
-  through a k b e (along _ j _ f r) = step a k b (ends a k e).1 e (through k j b f r)
-
   leads_from : (m k : ℕ) → Leads calls m k → leads m k ≡ true
-  leads_from m k l = leads_through_from calls size m k (through m l.0 k l.1 l.2)
+  leads_from m k l = leads_through_from calls size m k (Through_leads calls size m k ends l)
 
   leads_to : (m k : ℕ) → leads m k ≡ true → Leads calls m k
   leads_to m k t = Leads_through calls size m k (leads_through_to calls size m k t)

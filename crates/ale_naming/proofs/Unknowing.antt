@@ -1,22 +1,21 @@
 -- The first round finds the first declaration with a mention that is not known; where it finds none, all are known.
-use Rattle.std.proofs.Common.{◌≡◌, ℕ, suc, Option, Some, None, List, [], ◌∷◌, ◌++◌, refl}
+use Rattle.std.proofs.Common.{◌≡◌, ℕ, suc, Option, Some, None, List, [], ◌∷◌, ◌++◌}
 use Rattle.ale_declared.specs.Declarations.{Declared}
 use Rattle.ale_term.specs.Terms.{TermData}
 use Rattle.ale_term.specs.Goals.{GoalData}
 use Rattle.ale_declaration.specs.Declarations.{DeclarationData, signature, constraint, macro, clause, word, empty, lex_rule, rule, semantics, lex_depth, chain_length, passed_over, Element, daughter, daughters, condition, head}
-use Rattle.ale_vocabulary.specs.First.{IsFirst, AllRight, or_else, first_of}
+use Rattle.ale_vocabulary.specs.First.{IsFirst, AllRight, first_of}
 use Rattle.ale_vocabulary.specs.Vocabularies.{VocabularyData}
 use Rattle.ale_vocabulary.specs.Mentions.{Mention, mentions, mentions_of_each, mentions_of_goal, mentions_of_some, mentions_of_element, mentions_of_elements, mentions_of_declaration}
 use Rattle.ale_vocabulary.specs.Knowing.{IsUnknown, unknown_in}
-use Rattle.ale_vocabulary.specs.declared.error.NameError.{NameError}
 use Rattle.ale_vocabulary.proofs.Found.{first_is_found}
 use Rattle.ale_describe.specs.Declaring.{AreKnownDeclarations}
 use Rattle.ale_describe.proofs.Knowing.{right_left, right_right}
 use Rattle.ale_naming.specs.Places.{places_from}
-use Rattle.ale_naming.specs.Faults.{Fault, HasUnknown}
+use Rattle.ale_naming.specs.Faults.{HasUnknown}
 use Rattle.ale_naming.specs.Known.{AreKnown, IsKnownSome, IsKnownElement, AreKnownElements, HasKnownParts, HaveKnownParts}
 use Rattle.ale_naming.specs.Rounds.{fault_at, round_one}
-use Rattle.ale_naming.proofs.Firsts.{some_none, Finds, finds_none, finds_more, tells_at}
+use Rattle.ale_naming.proofs.Firsts.{Finds, finds_none, finds_more, tells_at, at_none, both_none}
 
 pub one_finds : (d : Declared) (v : VocabularyData) (k : ℕ) (before xs : List DeclarationData) → Finds (HasUnknown d v) (round_one d v k xs) (places_from k before xs)
 one_finds d v k before [] = finds_none (HasUnknown d v)
@@ -25,14 +24,6 @@ one_finds d v k before (x ∷ xs) =
     (record { number = k; before = before; declaration = x }) (places_from (suc k) (before ++ x ∷ []) xs)
     (tells_at k (first_of (unknown_in d v) (mentions_of_declaration x)) (IsFirst (IsUnknown d v) (mentions_of_declaration x)) (λ e. (first_is_found d v (mentions_of_declaration x)).first e))
     (λ none. one_finds d v (suc k) (before ++ x ∷ []) xs)
-
-at_none : (k : ℕ) (o : Option NameError) → fault_at k o ≡ None → o ≡ None
-at_none k None e = refl
-at_none k (Some x) e = absurd (some_none (k, x) e)
-
-both_none : (o r : Option Fault) → or_else o r ≡ None → (o ≡ None) × (r ≡ None)
-both_none None r e = (refl, e)
-both_none (Some f) r e = absurd (some_none f e)
 
 right_here : (d : Declared) (v : VocabularyData) (k : ℕ) (x : DeclarationData) (xs : List DeclarationData) → round_one d v k (x ∷ xs) ≡ None → AllRight (IsUnknown d v) (mentions_of_declaration x)
 right_here d v k x xs e =
