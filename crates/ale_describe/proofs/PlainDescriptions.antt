@@ -14,7 +14,7 @@ use Rattle.ale_describe.specs.Describing.{described}
 use Rattle.ale_describe.proofs.Knowing.{calls_known}
 
 mutual
-  plain_template : (d : Declared) (v : VocabularyData) (vs : List (List ℕ)) (t : TermData) → IsPlainTerm t → IsPlainTemplate (templated d v vs t).0
+  pub plain_template : (d : Declared) (v : VocabularyData) (vs : List (List ℕ)) (t : TermData) → IsPlainTerm t → IsPlainTemplate (templated d v vs t).0
   plain_template d v vs (term.name n) p = tt
   plain_template d v vs (term.slot x) p = tt
   plain_template d v vs (term.at f t) p = plain_template d v vs t p

@@ -1,20 +1,19 @@
 -- A file is cut in one way or refused for one cause, which the function gives.
-use Rattle.std.proofs.Common.{◌≡◌, ◌↔◌, ℕ, ◌<◌, ◌≤◌, ◌⊎◌, inl, inr, Bool, true, false, cond, ltb, List, Result, Ok, Err, length, refl, sym, ap, ◌∙◌, subst, arith}
-use Rattle.std.specs.Str.{chars, IsUtf8, is_utf8}
+use Rattle.std.proofs.Common.{◌≡◌, ℕ, ◌<◌, ◌≤◌, ◌⊎◌, inl, inr, Bool, true, false, cond, ltb, List, Result, Ok, Err, length, refl, sym, ap, ◌∙◌, subst, arith}
+use Rattle.std.specs.Str.{chars, is_utf8}
 use Rattle.std.specs.Str.Lossy.{utf8_valid_len}
 use Rattle.std.proofs.lemmas.Str.{IsUtf8-from_is_utf8, is_utf8-from_IsUtf8}
 use Rattle.std.proofs.lemmas.Bool.Decides.{Decides-ltb, nat_tests}
 use Rattle.ale_token.specs.declared.token.Token.{Token}
-use Rattle.ale_token.specs.declared.token.TokenError.{TokenError}
 use Rattle.ale_token.specs.declared.token.TokenError.TheVariants.{BadToken, NoEnd}
-use Rattle.ale_token.specs.Tokens.{Reads, BadAt, ReadOrBad, tokens_of}
-use Rattle.ale_token.specs.Declarations.{Cuts, Unended, CutOrUnended, declarations_of}
+use Rattle.ale_token.specs.Tokens.{Reads, ReadOrBad}
+use Rattle.ale_token.specs.Declarations.{CutOrUnended}
 use Rattle.ale_token.proofs.Reading.{Reads-tokens_from, BadAt-tokens_from, read_or_bad}
 use Rattle.ale_token.proofs.Cutting.{Cuts-cut_on, Unended-cut_on, cut_or_unended}
 use Rattle.ale_term.specs.declared.lexeme.Lexeme.{Lexeme}
 use Rattle.ale_load.specs.declared.file_error.FileError.{FileError}
 use Rattle.ale_load.specs.declared.file_error.FileError.TheVariants.{TooLong, NotText, Unread}
-use Rattle.ale_load.specs.Files.{file_limit, parts, IsText, IsCut, too_long, no_text, bad_token, no_end, cut, unread, next, tokens_cut, text_cut, cut_of}
+use Rattle.ale_load.specs.Files.{file_limit, parts, IsText, IsCut, too_long, no_text, bad_token, no_end, cut, tokens_cut, text_cut, cut_of}
 
 abbrev Cutting : Type 0
 Cutting = Result (List (List Lexeme)) FileError

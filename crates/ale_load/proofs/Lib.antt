@@ -5,5 +5,6 @@ pub mod Cutting
 pub mod Laws
 pub mod Opaque
 pub mod Parts
+pub mod Plain
 pub mod Queries
 pub mod Sorting

@@ -1,5 +1,5 @@
 -- Parts are read in one way, which the function gives; and what a loop over them has read.
-use Rattle.std.proofs.Common.{◌≡◌, ◌↔◌, ℕ, suc, ◌+◌, List, [], ◌∷◌, ◌++◌, Option, Some, None, Bool, true, false, Result, Ok, Err, length, refl, sym, ap, ◌∙◌, subst, append_assoc}
+use Rattle.std.proofs.Common.{◌≡◌, ◌↔◌, ℕ, suc, List, [], ◌∷◌, ◌++◌, Result, Ok, Err, refl, sym, ap, ◌∙◌, append_assoc}
 use Rattle.ale_term.specs.declared.lexeme.Lexeme.{Lexeme}
 use Rattle.ale_form.specs.declared.error.FormError.{FormError}
 use Rattle.ale_load.specs.Reading.{Refusal, AreRead, all_read, one_refused, later_refused, one_more, with_first, read_with, each_read}

@@ -1,5 +1,5 @@
 -- Declarations that are sorted one after the other: what was kept, before what those that are left give.
-use Rattle.std.proofs.Common.{◌≡◌, ℕ, suc, ◌+◌, ◌<◌, List, [], ◌∷◌, ◌++◌, map, drop, get_or, length, refl, sym, ap, ◌∙◌, append_assoc, add-one}
+use Rattle.std.proofs.Common.{◌≡◌, ℕ, suc, ◌+◌, ◌<◌, List, ◌∷◌, ◌++◌, map, drop, get_or, length, sym, ap, ◌∙◌, append_assoc, add-one}
 use Rattle.ale_declared.specs.declared.decl.SigDecl.{SigDecl}
 use Rattle.ale_hierarchy.proofs.LoopLemmas.{drop_item}
 use Rattle.ale_declaration.specs.declared.declaration.Declaration.{Declaration}

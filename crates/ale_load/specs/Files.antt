@@ -1,5 +1,5 @@
 -- A file that is cut into its declarations or commands: the lexemes between its ends, in order.
-use Rattle.std.specs.Prelude.{◌≡◌, ℕ, ◌<◌, ◌≤◌, nat_lt, Result, Ok, Err, List, [], ◌∷◌, map, length, slice_range, if◌then◌else◌}
+use Rattle.std.specs.Prelude.{ℕ, ◌<◌, ◌≤◌, nat_lt, Result, Ok, Err, List, [], ◌∷◌, length, slice_range, if◌then◌else◌}
 use Rattle.std.specs.Str.{chars, IsUtf8, is_utf8}
 use Rattle.std.specs.Str.Lossy.{utf8_valid_len}
 use Rattle.ale_token.specs.declared.token.Token.{Token}

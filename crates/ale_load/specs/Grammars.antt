@@ -1,11 +1,9 @@
 -- What the bytes of a grammar file are loaded as.
-use Rattle.std.specs.Prelude.{◌≡◌, ℕ, suc, Bool, true, false, Option, Some, None, Result, Ok, Err, List, [], ◌∷◌, ◌++◌}
+use Rattle.std.specs.Prelude.{◌≡◌, ℕ, suc, Option, Some, None, Result, Ok, Err, List, [], ◌∷◌, ◌++◌}
 use Rattle.ale_term.specs.declared.lexeme.Lexeme.{Lexeme}
-use Rattle.ale_token.specs.declared.token.TokenError.{TokenError}
 use Rattle.ale_form.specs.declared.error.FormError.{FormError}
 use Rattle.ale_form.specs.declared.error.FormError.TheVariants as form
 use Rattle.ale_declared.specs.declared.decl.SigDecl.{SigDecl}
-use Rattle.ale_declared.specs.declared.decl.SigDecl.TheVariants.{Kind, Ext}
 use Rattle.ale_declared.specs.Declarations.{Declared, declared}
 use Rattle.ale_hierarchy.specs.declared.fault.Fault.{Fault}
 use Rattle.ale_hierarchy.specs.declared.error.SigError.{SigError}
@@ -14,30 +12,25 @@ use Rattle.ale_hierarchy.specs.Accepted.{IsAccepted}
 use Rattle.ale_hierarchy.specs.Faults.{fault_of}
 use Rattle.ale_hierarchy.specs.Refusals.{IsFault, named_fault}
 use Rattle.ale_declaration.specs.Declarations.{DeclarationData, signature, constraint, macro, clause, word, empty, lex_rule, rule, semantics, lex_depth, chain_length, passed_over}
+use Rattle.ale_stage.specs.Stages.{declaration_is_built}
+use Rattle.ale_macro.specs.Calls.{BodiesArePlain}
+use Rattle.ale_describe.specs.Names.{NamesData}
+use Rattle.ale_describe.specs.Macros.{names_of}
+use Rattle.ale_describe.specs.Laws.{FitsNames}
+use Rattle.ale_naming.specs.Faults as naming
+use Rattle.ale_naming.specs.Faults.{IsNameFault, AreRight}
+use Rattle.ale_naming.specs.Rounds.{named_of}
+use Rattle.ale_naming.specs.declared.fault.NameFault.{NameFault}
+use Rattle.ale_naming.specs.declared.fault.NameFault.TheVariants as fault
+use Rattle.ale_naming.specs.declared.fault.NameFault.TheVariants.{At}
 use Rattle.ale_declaration.specs.Answers.{DeclarationAnswers}
 use Rattle.ale_declaration.specs.Reading.{declaration_of}
 use Rattle.ale_load.specs.declared.file_error.FileError.{FileError}
 use Rattle.ale_load.specs.declared.file_error.FileError.TheVariants as file
 use Rattle.ale_load.specs.declared.grammar_error.GrammarError.{GrammarError}
-use Rattle.ale_load.specs.declared.grammar_error.GrammarError.TheVariants.{TooLong, NotText, Token, Form, NotBuilt, Signature, NoMemory}
+use Rattle.ale_load.specs.declared.grammar_error.GrammarError.TheVariants.{TooLong, NotText, Token, Form, NotBuilt, Signature, Names, NoMemory}
 use Rattle.ale_load.specs.Files.{IsCut, cut_of}
 use Rattle.ale_load.specs.Reading.{Refusal, AreRead, each_read, first_without}
-
--- types of `sub` and `intro`, and directives that are passed over; the other forms are read and not built
-abbrev pub is_built : DeclarationData → Bool
-is_built (signature (Kind t ts fs)) = true
-is_built (signature (Ext ts)) = false
-is_built (constraint t d g) = false
-is_built (macro m ps d) = false
-is_built (clause p ts g) = false
-is_built (word w d) = false
-is_built (empty d) = false
-is_built (lex_rule n d e g ls) = false
-is_built (rule n d es) = false
-is_built (semantics p) = false
-is_built (lex_depth n) = false
-is_built (chain_length n) = false
-is_built (passed_over n) = true
 
 -- a directive that is passed over: the number of its declaration, and its name
 abbrev pub PassedOver : Type 0
@@ -83,15 +76,22 @@ abbrev pub passed_from : ℕ → List DeclarationData → List PassedOver
 passed_from k [] = []
 passed_from k (d ∷ ds) = passed_in k (built_of d) ++ passed_from (suc k) ds
 
+-- types and features, what macros and predicates mean, and the directives that are passed over
 pub record LoadedData : Type 0 where
   pub signature_of : Declared
+  pub names : NamesData
   pub passed : List PassedOver
+
+-- its macros speak of types and features of its signature, and no inequation stands in them
+pub record FitsLoaded (l : LoadedData) : Type 0 where
+  pub names : FitsNames l.signature_of l.names
+  pub plain : BodiesArePlain l.names.library.macros
 
 abbrev pub declared_by : List DeclarationData → Declared
 declared_by ds = declared (types_of ds)
 
 abbrev pub loaded_of : List DeclarationData → LoadedData
-loaded_of ds = record { signature_of = declared_by ds; passed = passed_from 1 ds }
+loaded_of ds = record { signature_of = declared_by ds; names = names_of (declared_by ds) ds; passed = passed_from 1 ds }
 
 -- what a part of a grammar is read as; the word is not seen through, so that proofs about files never unfold all forms
 unfoldable pub declaration_in : List Lexeme → Result DeclarationData FormError
@@ -124,22 +124,33 @@ signature_fault (refusal.ExtNotMaximal t) = Signature (refusal.ExtNotMaximal t)
 signature_fault (refusal.FillTooLarge t) = Signature (refusal.FillTooLarge t)
 signature_fault refusal.NoMemory = NoMemory
 
+-- why a grammar is refused that has a fault of names
+abbrev pub name_fault : NameFault → GrammarError
+name_fault (At k e) = Names k e
+name_fault fault.NoMemory = NoMemory
+
 -- The bytes are a grammar, or are refused: for the file; else for the first part that is no declaration; else for the first
--- declaration that is not built; else for the first fault of the signature.
+-- declaration that is not built; else for the first fault of the signature; else for the first fault of names.
 pub data IsLoaded (g : List ℕ) : Result LoadedData GrammarError → Type 0 where
   not_cut : (e : FileError) → IsCut g (Err e) → IsLoaded g (Err (grammar_fault e))
   not_read : (ps : List (List Lexeme)) (r : Refusal) → IsCut g (Ok ps) → AreRead DeclarationAnswers 1 ps (Err r) → IsLoaded g (Err (Form r.0 r.1))
   not_built : (ps : List (List Lexeme)) (ds : List DeclarationData) (k : ℕ) → IsCut g (Ok ps) → AreRead DeclarationAnswers 1 ps (Ok ds) →
-      first_without is_built 1 ds ≡ Some k → IsLoaded g (Err (NotBuilt k))
+      first_without declaration_is_built 1 ds ≡ Some k → IsLoaded g (Err (NotBuilt k))
   not_accepted : (ps : List (List Lexeme)) (ds : List DeclarationData) (f : Fault) → IsCut g (Ok ps) → AreRead DeclarationAnswers 1 ps (Ok ds) →
-      first_without is_built 1 ds ≡ None → IsFault (declared_by ds) f → IsLoaded g (Err (Signature (named_fault (declared_by ds) f)))
+      first_without declaration_is_built 1 ds ≡ None → IsFault (declared_by ds) f → IsLoaded g (Err (Signature (named_fault (declared_by ds) f)))
+  not_named : (ps : List (List Lexeme)) (ds : List DeclarationData) (f : naming.Fault) → IsCut g (Ok ps) → AreRead DeclarationAnswers 1 ps (Ok ds) →
+      first_without declaration_is_built 1 ds ≡ None → IsAccepted (declared_by ds) → IsNameFault (declared_by ds) ds f → IsLoaded g (Err (Names f.0 f.1))
   is_loaded : (ps : List (List Lexeme)) (ds : List DeclarationData) → IsCut g (Ok ps) → AreRead DeclarationAnswers 1 ps (Ok ds) →
-      first_without is_built 1 ds ≡ None → IsAccepted (declared_by ds) → IsLoaded g (Ok (loaded_of ds))
+      first_without declaration_is_built 1 ds ≡ None → IsAccepted (declared_by ds) → AreRight (declared_by ds) ds → IsLoaded g (Ok (loaded_of ds))
 
 -- the same as a function, stage by stage
+abbrev pub after_names : List DeclarationData → Result NamesData naming.Fault → Result LoadedData GrammarError
+after_names ds (Ok names) = Ok (record { signature_of = declared_by ds; names = names; passed = passed_from 1 ds })
+after_names ds (Err f) = Err (Names f.0 f.1)
+
 abbrev pub after_signature : List DeclarationData → Option Fault → Result LoadedData GrammarError
 after_signature ds (Some f) = Err (Signature (named_fault (declared_by ds) f))
-after_signature ds None = Ok (loaded_of ds)
+after_signature ds None = after_names ds (named_of (declared_by ds) ds)
 
 abbrev pub after_built : List DeclarationData → Option ℕ → Result LoadedData GrammarError
 after_built ds (Some k) = Err (NotBuilt k)
@@ -150,7 +161,7 @@ formed (Ok ds) = Ok ds
 formed (Err r) = Err (Form r.0 r.1)
 
 abbrev pub after_forms : Result (List DeclarationData) GrammarError → Result LoadedData GrammarError
-after_forms (Ok ds) = after_built ds (first_without is_built 1 ds)
+after_forms (Ok ds) = after_built ds (first_without declaration_is_built 1 ds)
 after_forms (Err e) = Err e
 
 abbrev pub after_cut : Result (List (List Lexeme)) FileError → Result LoadedData GrammarError

@@ -25,6 +25,7 @@ GrammarFails (grammar.Token e) read = read ≡ Err (grammar.Token e)
 GrammarFails (grammar.Form k e) read = read ≡ Err (grammar.Form k e)
 GrammarFails (grammar.NotBuilt k) read = read ≡ Err (grammar.NotBuilt k)
 GrammarFails (grammar.Signature e) read = read ≡ Err (grammar.Signature e)
+GrammarFails (grammar.Names k e) read = read ≡ Err (grammar.Names k e)
 
 abbrev pub LoadGives : {A B : Type 0} → (A → B) → Result A GrammarError → Result B GrammarError → Type 0
 LoadGives view (Ok x) read = read ≡ Ok (view x)

@@ -1,4 +1,4 @@
-use ale_resolve::NameError;
+use ale_vocabulary::NameError;
 use std::alloc::{AllocError, AllocFailed};
 use thiserror::Error;
 
@@ -20,10 +20,10 @@ pub enum CommandError {
     /// This command, the first such, is none.
     #[error("BadCommand")]
     BadCommand(usize),
-    /// This command, the first such, is of a form that is read but not built, or has more than 100,000 parts.
+    /// This command, the first such, is of a form that is read but not built.
     #[error("NotBuilt")]
     NotBuilt(usize),
-    /// This command, the first such, has a name that is not declared. It never holds that memory ran out.
+    /// This command, the first such, has a name that is not known, or is too large when all macros are put in.
     #[error("Name")]
     Name(usize, NameError),
     /// Memory ran out.

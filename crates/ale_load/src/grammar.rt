@@ -10,13 +10,14 @@ ghost use Rattle.ale_hierarchy.specs.Hierarchy.{IsLawful};
 ghost use Rattle.ale_hierarchy.specs.Order.{hierarchy};
 ghost use Rattle.ale_hierarchy.specs.Faults.{fault_of};
 ghost use Rattle.ale_declaration.specs.Declarations.{DeclarationData, declaration_data};
+ghost use Rattle.ale_stage.specs.Stages.{declaration_is_built};
 ghost use Rattle.ale_load.specs.declared.file_error.FileError.{FileError};
 ghost use Rattle.ale_load.specs.declared.grammar_error.GrammarError.{GrammarError};
 ghost use Rattle.ale_load.specs.declared.grammar_error.GrammarError.TheVariants.{NoMemory};
 ghost use Rattle.ale_load.specs.Files.{IsCut, cut_of};
 ghost use Rattle.ale_load.specs.Reading.{each_read, first_without};
-ghost use Rattle.ale_load.specs.Grammars.{is_built, built_of, types_in, types_of, passed_in, passed_from, LoadedData, IsLoaded, grammar_fault, form_fault, signature_fault, declaration_in, formed, declared_by, after_signature, load_of};
-ghost use Rattle.ale_load.specs.Laws.{LoadLaw, LawfulLaw, DistinctLaw};
+ghost use Rattle.ale_load.specs.Grammars.{built_of, types_in, types_of, passed_in, passed_from, LoadedData, FitsLoaded, IsLoaded, grammar_fault, form_fault, signature_fault, name_fault, declaration_in, formed, declared_by, after_signature, load_of};
+ghost use Rattle.ale_load.specs.Laws.{LoadLaw, LawfulLaw, DistinctLaw, LoadedLaw};
 ghost use Rattle.ale_load.specs.Results.{LoadGives};
 ghost use Rattle.ale_load.specs.Views.{parts_in, part_in, passed_data, loaded_data};
 
@@ -26,8 +27,11 @@ use crate::file_error::FileError;
 use crate::grammar_error::GrammarError;
 use ale_declaration::{Declaration, one_declaration, read_declaration};
 use ale_declared::{SigDecl, numbering_law};
+use ale_describe::Names;
 use ale_form::FormError;
+use ale_naming::{NameFault, names_of, naming_law};
 use ale_signature::{SigError, Signature, fault_law, signature_law};
+use ale_stage::declaration_is_built;
 use ale_term::add;
 use ale_text::{Row, Text};
 use std::alloc::{AllocError, Global};
@@ -46,6 +50,8 @@ pub struct Passed {
 pub struct Loaded {
     /// Its types and features.
     pub signature: Signature,
+    /// What its macros and predicates mean.
+    pub names: Names,
     /// The directives that were passed over, in order.
     pub passed: Row<Passed>,
 }
@@ -79,6 +85,16 @@ fn signature_fault(error: SigError) -> GrammarError
     match error {
         SigError::NoMemory => GrammarError::NoMemory,
         error => GrammarError::Signature(error),
+    }
+}
+
+// Why a grammar is refused that has a fault of names.
+fn name_fault(fault: NameFault) -> GrammarError
+    ensures { result ≡ name_fault fault }
+{
+    match fault {
+        NameFault::At(number, error) => GrammarError::Names(number, error),
+        NameFault::NoMemory => GrammarError::NoMemory,
     }
 }
 
@@ -116,22 +132,12 @@ fn declarations(alloc: Global, parts: &Parts) -> Result<Vec<Declaration>, Gramma
     Ok(read)
 }
 
-// Whether the declaration is of a form that is built.
-fn is_built(declaration: &Declaration) -> bool
-    ensures { result ≡ is_built (declaration_data declaration.now) }
-{
-    match declaration {
-        Declaration::Sig(SigDecl::Kind { .. }) | Declaration::PassedOver(_) => true,
-        _ => false,
-    }
-}
-
 // The number of the first declaration of a form that is not built.
 fn first_unbuilt(declarations: &[Declaration]) -> Option<usize>
-    ensures { result ≡ first_without is_built 1 (map declaration_data declarations.now) }
+    ensures { result ≡ first_without declaration_is_built 1 (map declaration_data declarations.now) }
 {
     for (index, declaration) in declarations.iter().enumerate() {
-        if !is_built(declaration) {
+        if !declaration_is_built(declaration) {
             return Some(index + 1);
         }
     }
@@ -201,12 +207,17 @@ fn built(alloc: Global, declarations: &[Declaration]) -> Result<Loaded, GrammarE
     ensures lawful { IfOk result (λ l. IsLawful (hierarchy l.signature)) }
 {
     let sorted = sort(alloc, declarations)?;
-    match Signature::build(alloc, sorted.types.as_slice()) {
-        Ok(signature) => Ok(Loaded {
+    let signature = match Signature::build(alloc, sorted.types.as_slice()) {
+        Ok(signature) => signature,
+        Err(error) => return Err(signature_fault(error)),
+    };
+    match names_of(alloc, &signature, declarations) {
+        Ok(names) => Ok(Loaded {
             signature,
+            names,
             passed: Row::of(sorted.passed),
         }),
-        Err(error) => Err(signature_fault(error)),
+        Err(fault) => Err(name_fault(fault)),
     }
 }
 
@@ -234,27 +245,32 @@ fn load_in(alloc: Global, bytes: &[u8]) -> Result<Loaded, GrammarError>
 /// The first of these: `TooLong` for more than 4,194,304 bytes; `NotText(p)` where the bytes before `p` are the longest
 /// prefix that is UTF-8; `Token` where the text has no tokens, or tokens have no end; `Form(k, e)` where declaration `k` is
 /// the first that is refused, for `e`; `NotBuilt(k)` where it is the first of a form that is read and not built yet;
-/// `Signature` for the fault of the signature. `NoMemory` comes where memory runs out.
+/// `Signature` for the fault of the signature; `Names(k, e)` where declaration `k` is refused for `e`, the first fault of
+/// names. `NoMemory` comes where memory runs out.
 pub fn load(alloc: Global, bytes: &[u8]) -> Result<Loaded, GrammarError>
     ensures exact { LoadGives loaded_data result (load_of bytes.now) }
     ensures found { MatchResult result (λ l. IsLoaded bytes.now (Ok (loaded_data l))) (λ e. e ≢ NoMemory → IsLoaded bytes.now (Err e)) }
     ensures only { (answer : Result LoadedData GrammarError) → IsLoaded bytes.now answer → LoadGives loaded_data result answer }
     ensures accepted { IfOk result (λ l. IsAccepted l.signature) }
     ensures lawful { IfOk result (λ l. IsLawful (hierarchy l.signature)) }
+    ensures fits { IfOk result (λ l. FitsLoaded (loaded_data l)) }
 {
     load_law();
     load_in(alloc, bytes)
 }
 
 /// The bytes of a grammar are loaded as one thing or refused for one cause, which the function that `load` carries out
-/// gives; and the signature of a grammar that is loaded obeys the laws of a hierarchy, and no two of its types have one name.
+/// gives; and the signature of a grammar that is loaded obeys the laws of a hierarchy, no two of its types have one name, and
+/// its macros speak of its types and features and have no inequation.
 pub fn load_law()
     ensures loads { LoadLaw }
     ensures lawful { LawfulLaw }
     ensures distinct { DistinctLaw }
+    ensures fit { LoadedLaw }
 {
     one_declaration();
     fault_law();
     signature_law();
     numbering_law();
+    naming_law();
 }

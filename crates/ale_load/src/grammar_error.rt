@@ -1,6 +1,7 @@
 use ale_form::FormError;
 use ale_signature::SigError;
 use ale_token::TokenError;
+use ale_vocabulary::NameError;
 use std::alloc::{AllocError, AllocFailed};
 use thiserror::Error;
 
@@ -25,6 +26,9 @@ pub enum GrammarError {
     /// The signature is refused. It never holds that memory ran out.
     #[error("Signature")]
     Signature(SigError),
+    /// This declaration has the first fault of names.
+    #[error("Names")]
+    Names(usize, NameError),
     /// Memory ran out.
     #[error("NoMemory")]
     NoMemory,

@@ -8,6 +8,7 @@ mod file;
 mod file_error;
 mod grammar;
 mod grammar_error;
+mod query;
 
 pub use command_error::CommandError;
 pub use commands::{commands_law, read_commands};
@@ -15,3 +16,4 @@ pub use file::FILE_LIMIT;
 pub use file_error::FileError;
 pub use grammar::{Loaded, Passed, load, load_law};
 pub use grammar_error::GrammarError;
+pub use query::Query;

@@ -5,7 +5,7 @@ use Rattle.ale_declared.specs.Declarations.{Declared}
 use Rattle.ale_load.specs.declared.grammar_error.GrammarError.{GrammarError}
 use Rattle.ale_load.specs.declared.command_error.CommandError.{CommandError}
 use Rattle.ale_load.specs.Grammars.{LoadedData, IsLoaded, load_of}
-use Rattle.ale_load.specs.Commands.{Query, AreCommands, commands_of}
+use Rattle.ale_load.specs.Commands.{QueryData, AreCommands, commands_of}
 use Rattle.ale_load.specs.Laws.{LoadLaw, CommandsLaw}
 use Rattle.ale_top.specs.declared.status.Status.{Status}
 use Rattle.ale_top.specs.declared.status.Status.TheVariants.{Done, Unfinished, Grammar, Commands}
@@ -34,7 +34,7 @@ pub data Ends (g c : List ℕ) (budget : ℕ) : Status → Type 0 where
   by_budget : IsAcceptedGrammar g → AreAccepted g c → Unfinishes g c budget → (Finishes g c budget → ⊥) → Ends g c budget Unfinished
 
 -- every search ended, or one did not
-all_ended : (d : Declared) (budget : ℕ) (qs : List Query) → all_finished d budget qs ≡ true → (q : Query) → Has qs q → (search_for d budget q).finished ≡ true
+all_ended : (d : Declared) (budget : ℕ) (qs : List QueryData) → all_finished d budget qs ≡ true → (q : QueryData) → Has qs q → (search_for d budget q).finished ≡ true
 all_ended d budget [] e q has = absurd has
 all_ended d budget (p ∷ ps) e q (inl same) = subst (λ z. (search_for d budget z).finished ≡ true) (sym same) (first (search_for d budget p).finished (all_finished d budget ps) e)
   where
@@ -47,10 +47,10 @@ all_ended d budget (p ∷ ps) e q (inr has) = all_ended d budget ps (rest (searc
     rest true b e = e
     rest false b e = absurd cc
 
-abbrev SomeUnfinished : Declared → ℕ → List Query → Type 0
-SomeUnfinished d budget qs = (q : Query) × Has qs q × ((search_for d budget q).finished ≡ false)
+abbrev SomeUnfinished : Declared → ℕ → List QueryData → Type 0
+SomeUnfinished d budget qs = (q : QueryData) × Has qs q × ((search_for d budget q).finished ≡ false)
 
-one_not_ended : (d : Declared) (budget : ℕ) (qs : List Query) → all_finished d budget qs ≡ false → SomeUnfinished d budget qs
+one_not_ended : (d : Declared) (budget : ℕ) (qs : List QueryData) → all_finished d budget qs ≡ false → SomeUnfinished d budget qs
 one_not_ended d budget [] e = absurd cc
 one_not_ended d budget (p ∷ ps) e =
     go (search_for d budget p).finished refl (λ f. one_not_ended d budget ps (later (search_for d budget p).finished (all_finished d budget ps) e f))
@@ -71,9 +71,9 @@ module _ (loads : LoadLaw) (reads : CommandsLaw) where
   pub given : (g c : List ℕ) (budget : ℕ) (s : Status) (text : List ℕ) → Output g c budget s text → ◌≡◌ {A = Ending} (outcome g c budget) (s, text)
   given g c budget s text (grammar_refused e is) = ap (after_grammar c budget) ((loads g (Err e)).0 is)
   given g c budget s text (commands_refused l e is are) =
-      ap (after_grammar c budget) ((loads g (Ok l)).0 is) ∙ ap (after_commands l budget) ((reads l.signature_of c (Err e)).0 are)
+      ap (after_grammar c budget) ((loads g (Ok l)).0 is) ∙ ap (after_commands l budget) ((reads l c (Err e)).0 are)
   given g c budget s text (answered l qs is are) =
-      ap (after_grammar c budget) ((loads g (Ok l)).0 is) ∙ ap (after_commands l budget) ((reads l.signature_of c (Ok qs)).0 are)
+      ap (after_grammar c budget) ((loads g (Ok l)).0 is) ∙ ap (after_commands l budget) ((reads l c (Ok qs)).0 are)
 
   -- and so no two outputs are defined
   pub one : (g c : List ℕ) (budget : ℕ) (s t : Status) (x y : List ℕ) → Output g c budget s x → Output g c budget t y → (s ≡ t) × (x ≡ y)
@@ -81,14 +81,14 @@ module _ (loads : LoadLaw) (reads : CommandsLaw) where
       let e : ◌≡◌ {A = Ending} (s, x) (t, y) = sym (given g c budget s x p) ∙ given g c budget t y q in
       (ap (λ (z : Ending). z.0) e, ap (λ (z : Ending). z.1) e)
 
-  made_commands : (g c : List ℕ) (budget : ℕ) (l : LoadedData) → IsLoaded g (Ok l) → (r : Result (List Query) CommandError) → AreCommands l.signature_of c r → HasOutput g c budget
+  made_commands : (g c : List ℕ) (budget : ℕ) (l : LoadedData) → IsLoaded g (Ok l) → (r : Result (List QueryData) CommandError) → AreCommands l c r → HasOutput g c budget
   made_commands g c budget l is (Ok qs) are =
       record { status = ending (all_finished l.signature_of budget qs); text = answers_text l budget qs; output = answered l qs is are }
   made_commands g c budget l is (Err e) are = record { status = Commands; text = command_line e; output = commands_refused l e is are }
 
   made_grammar : (g c : List ℕ) (budget : ℕ) (r : Result LoadedData GrammarError) → IsLoaded g r → HasOutput g c budget
   made_grammar g c budget (Ok l) is =
-      made_commands g c budget l is (commands_of l.signature_of c) ((reads l.signature_of c (commands_of l.signature_of c)).1 refl)
+      made_commands g c budget l is (commands_of l c) ((reads l c (commands_of l c)).1 refl)
   made_grammar g c budget (Err e) is = record { status = Grammar; text = grammar_line e; output = grammar_refused e is }
 
   pub made : (g c : List ℕ) (budget : ℕ) → HasOutput g c budget
@@ -103,25 +103,25 @@ module _ (loads : LoadLaw) (reads : CommandsLaw) where
   same_grammar : (g : List ℕ) (l m : LoadedData) → IsLoaded g (Ok l) → IsLoaded g (Ok m) → l ≡ m
   same_grammar g l m x y = let same : Ok l ≡ Ok m = one_grammar g (Ok l) (Ok m) x y in cc
 
-  one_reading : (d : Declared) (c : List ℕ) (q r : Result (List Query) CommandError) → AreCommands d c q → AreCommands d c r → q ≡ r
-  one_reading d c q r x y = sym ((reads d c q).0 x) ∙ (reads d c r).0 y
+  one_reading : (l : LoadedData) (c : List ℕ) (q r : Result (List QueryData) CommandError) → AreCommands l c q → AreCommands l c r → q ≡ r
+  one_reading l c q r x y = sym ((reads l c q).0 x) ∙ (reads l c r).0 y
 
-  commands_only : (g c : List ℕ) (l : LoadedData) (e : CommandError) → IsLoaded g (Ok l) → AreCommands l.signature_of c (Err e) → AreAccepted g c → ⊥
+  commands_only : (g c : List ℕ) (l : LoadedData) (e : CommandError) → IsLoaded g (Ok l) → AreCommands l c (Err e) → AreAccepted g c → ⊥
   commands_only g c l e is are a =
       let same = same_grammar g (a.0) l (a.2.grammar) is in
-      let theirs = subst (λ (z : LoadedData). AreCommands z.signature_of c (Ok (a.1))) same (a.2.commands) in
-      let f : Err e ≡ Ok (a.1) = one_reading l.signature_of c (Err e) (Ok (a.1)) are theirs in
+      let theirs = subst (λ (z : LoadedData). AreCommands z c (Ok (a.1))) same (a.2.commands) in
+      let f : Err e ≡ Ok (a.1) = one_reading l c (Err e) (Ok (a.1)) are theirs in
       absurd cc
 
   -- whatever is asked for elsewhere is asked for here
-  asked_here : (g c : List ℕ) (l : LoadedData) (qs : List Query) → Asks g c l qs → (m : LoadedData) (rs : List Query) → Asks g c m rs → (l ≡ m) × (qs ≡ rs)
+  asked_here : (g c : List ℕ) (l : LoadedData) (qs : List QueryData) → Asks g c l qs → (m : LoadedData) (rs : List QueryData) → Asks g c m rs → (l ≡ m) × (qs ≡ rs)
   asked_here g c l qs x m rs y =
       let same = same_grammar g l m x.grammar y.grammar in
-      let theirs = subst (λ (z : LoadedData). AreCommands z.signature_of c (Ok qs)) same x.commands in
-      let f : Ok qs ≡ Ok rs = one_reading m.signature_of c (Ok qs) (Ok rs) theirs y.commands in
+      let theirs = subst (λ (z : LoadedData). AreCommands z c (Ok qs)) same x.commands in
+      let f : Ok qs ≡ Ok rs = one_reading m c (Ok qs) (Ok rs) theirs y.commands in
       (same, cc)
 
-  ends_searched : (g c : List ℕ) (budget : ℕ) (l : LoadedData) (qs : List Query) → Asks g c l qs → (b : Bool) → all_finished l.signature_of budget qs ≡ b → Ends g c budget (ending b)
+  ends_searched : (g c : List ℕ) (budget : ℕ) (l : LoadedData) (qs : List QueryData) → Asks g c l qs → (b : Bool) → all_finished l.signature_of budget qs ≡ b → Ends g c budget (ending b)
   ends_searched g c budget l qs asks true e =
       let all = all_ended l.signature_of budget qs e in
       by_finishing (l, asks.grammar) (l, qs, asks) (l, qs, asks, all) (λ u.

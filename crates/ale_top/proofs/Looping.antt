@@ -4,9 +4,10 @@ use Rattle.ale_declared.specs.Declarations.{Declared}
 use Rattle.ale_hierarchy.specs.Hierarchy.{Hierarchy}
 use Rattle.ale_hierarchy.proofs.LoopLemmas.{drop_item}
 use Rattle.ale_logic.specs.Descriptions.{description, FitsDescription}
-use Rattle.ale_resolve.specs.declared.describing.Described.{Described}
+use Rattle.ale_load.specs.declared.query.Query.{Query}
 use Rattle.ale_load.specs.declared.grammar.Passed.{Passed}
-use Rattle.ale_load.specs.Commands.{Query, AllFit}
+use Rattle.ale_load.specs.Commands.{QueryData}
+use Rattle.ale_load.specs.Commands.{AllFit}
 use Rattle.ale_load.specs.Views.{passed_data, query_data}
 use Rattle.ale_relation.specs.Has.{Has}
 use Rattle.ale_report.specs.Parts.{command_text}
@@ -21,7 +22,7 @@ passed_step ps i p old new low at is =
     ∙ append_assoc old (passed_line (passed_data p)) (passed_text (map passed_data (drop (i + 1) ps)))
     ∙ ap (λ z. old ++ passed_text (map passed_data z)) (sym (drop_item ps i p low at))
 
-module _ (d : Declared) (budget : ℕ) (qs : List Described) (i : ℕ) (q : Described) (low : i < length qs) (at : q ≡ get_or qs i q) where
+module _ (d : Declared) (budget : ℕ) (qs : List Query) (i : ℕ) (q : Query) (low : i < length qs) (at : q ≡ get_or qs i q) where
   -- what is left fits, the first of it and the others
   pub fits_first : (h : Hierarchy) → AllFit h (map query_data (drop i qs)) → FitsDescription h (length q.names) (description q.desc)
   fits_first h fit = (subst (λ zs. AllFit h (map query_data zs)) (drop_item qs i q low at) fit).0.fits
@@ -47,13 +48,13 @@ module _ (d : Declared) (budget : ℕ) (qs : List Described) (i : ℕ) (q : Desc
       go false b = refl
 
   -- the answers to the commands so far could be counted
-  pub counted_step : ((p : Query) → Has (map query_data qs) p → Has (map query_data (drop i qs)) p ⊎ AreCountable (search_for d budget p).answers)
+  pub counted_step : ((p : QueryData) → Has (map query_data qs) p → Has (map query_data (drop i qs)) p ⊎ AreCountable (search_for d budget p).answers)
       → AreCountable (search_for d budget (query_data q)).answers
-      → (p : Query) → Has (map query_data qs) p → Has (map query_data (drop (i + 1) qs)) p ⊎ AreCountable (search_for d budget p).answers
+      → (p : QueryData) → Has (map query_data qs) p → Has (map query_data (drop (i + 1) qs)) p ⊎ AreCountable (search_for d budget p).answers
   counted_step before now p has = elim (before p has) [ inl k ↦ go (subst (λ zs. Has (map query_data zs) p) (drop_item qs i q low at) k) | inr small ↦ inr small ]
     where
       go : (p ≡ query_data q) ⊎ Has (map query_data (drop (i + 1) qs)) p → Has (map query_data (drop (i + 1) qs)) p ⊎ AreCountable (search_for d budget p).answers
-      go (inl e) = inr (subst (λ (z : Query). AreCountable (search_for d budget z).answers) (sym e) now)
+      go (inl e) = inr (subst (λ (z : QueryData). AreCountable (search_for d budget z).answers) (sym e) now)
       go (inr k) = inl k
 
 -- what a short-circuit of two tests comes to

@@ -22,6 +22,7 @@ not_loaded (grammar.Token e) r f some l is = no_ok (sym is ∙ f)
 not_loaded (grammar.Form k e) r f some l is = no_ok (sym is ∙ f)
 not_loaded (grammar.NotBuilt k) r f some l is = no_ok (sym is ∙ f)
 not_loaded (grammar.Signature e) r f some l is = no_ok (sym is ∙ f)
+not_loaded (grammar.Names k e) r f some l is = no_ok (sym is ∙ f)
 
 -- the output that is defined of a grammar that is refused
 refused_outcome : (e : GrammarError) (g c : List ℕ) (budget : ℕ) → GrammarFails e (load_of g) → (e ≡ grammar.NoMemory → ⊥) → ◌≡◌ {A = Ending} (Grammar, grammar_line e) (outcome g c budget)
@@ -32,6 +33,7 @@ refused_outcome (grammar.Token e) g c budget f some = sym (ap (after_grammar c b
 refused_outcome (grammar.Form k e) g c budget f some = sym (ap (after_grammar c budget) f)
 refused_outcome (grammar.NotBuilt k) g c budget f some = sym (ap (after_grammar c budget) f)
 refused_outcome (grammar.Signature e) g c budget f some = sym (ap (after_grammar c budget) f)
+refused_outcome (grammar.Names k e) g c budget f some = sym (ap (after_grammar c budget) f)
 
 pub refused_report : {E : Type 0} (r : Result Report E) (e : GrammarError) (g c : List ℕ) (budget : ℕ) → OnOk r (e ≡ grammar.NoMemory → ⊥)
     → IfOk r (λ x. ◌≡◌ {A = Ending} (report_of x) (Grammar, grammar_line e)) → GrammarFails e (load_of g) → IfOk r (λ x. ◌≡◌ {A = Ending} (report_of x) (outcome g c budget))

@@ -7,8 +7,8 @@ use Rattle.ale_hierarchy.specs.Order.{hierarchy}
 use Rattle.ale_search.specs.Solutions.{SearchLaw, SearchLaws}
 use Rattle.ale_report.specs.Written.{WrittenLaw, WrittenLaws, TextsLaw}
 use Rattle.ale_load.specs.Grammars.{LoadedData}
-use Rattle.ale_load.specs.Commands.{Query, FitsQuery, AllFit}
-use Rattle.ale_load.specs.Laws.{LoadLaw, LawfulLaw, DistinctLaw, CommandsLaw, FitLaw}
+use Rattle.ale_load.specs.Commands.{QueryData, FitsQuery, AllFit}
+use Rattle.ale_load.specs.Laws.{LoadLaw, LawfulLaw, DistinctLaw, LoadedLaw, CommandsLaw, FitLaw}
 use Rattle.ale_top.specs.declared.status.Status.{Status}
 use Rattle.ale_top.specs.declared.status.Status.TheVariants.{Done, Unfinished, Words, Grammar, Commands, ReadFault, WriteFault, NoMemory}
 use Rattle.ale_top.specs.Jobs.{Job}
@@ -61,9 +61,9 @@ defined loads reads g c budget r old new w =
       causes = causes g c budget m.status (ends loads reads g c budget m.status m.text m.output);
     }
 
-one_fits : (h : Hierarchy) (qs : List Query) → AllFit h qs → (q : Query) → Has qs q → FitsQuery h q
+one_fits : (h : Hierarchy) (qs : List QueryData) → AllFit h qs → (q : QueryData) → Has qs q → FitsQuery h q
 one_fits h [] fit q has = absurd has
-one_fits h (p ∷ ps) fit q (inl same) = subst (λ (z : Query). FitsQuery h z) (sym same) (fit.0)
+one_fits h (p ∷ ps) fit q (inl same) = subst (λ (z : QueryData). FitsQuery h z) (sym same) (fit.0)
 one_fits h (p ∷ ps) fit q (inr has) = one_fits h ps (fit.1) q has
 
 -- what is read of a file that tells nothing
@@ -109,6 +109,7 @@ pub record Laws : Type 0 where
   pub loads : LoadLaw
   pub lawful : LawfulLaw
   pub distinct : DistinctLaw
+  pub fits : LoadedLaw
   pub reads : CommandsLaw
   pub fit : FitLaw
   pub searches : SearchLaws
@@ -116,15 +117,15 @@ pub record Laws : Type 0 where
   pub texts : TextsLaw
 
 module _ (laws : Laws) where
-  fits_asked : (g c : List ℕ) (l : LoadedData) (qs : List Query) → Asks g c l qs → (q : Query) → Has qs q → FitsQuery (hierarchy l.signature_of) q
-  fits_asked g c l qs asks q has = one_fits (hierarchy l.signature_of) qs (laws.fit l.signature_of c qs asks.commands) q has
+  fits_asked : (g c : List ℕ) (l : LoadedData) (qs : List QueryData) → Asks g c l qs → (q : QueryData) → Has qs q → FitsQuery (hierarchy l.signature_of) q
+  fits_asked g c l qs asks q has = one_fits (hierarchy l.signature_of) qs (laws.fit l c qs (laws.fits g l asks.grammar) asks.commands) q has
 
   -- what is asked for speaks of a lawful signature
-  asked_law : (g c : List ℕ) (budget : ℕ) (l : LoadedData) (qs : List Query) → Asks g c l qs → (q : Query) → Has qs q → SearchLaw (hierarchy l.signature_of) (length q.1) q.0 budget
+  asked_law : (g c : List ℕ) (budget : ℕ) (l : LoadedData) (qs : List QueryData) → Asks g c l qs → (q : QueryData) → Has qs q → SearchLaw (hierarchy l.signature_of) (length q.1) q.0 budget
   asked_law g c budget l qs asks q has =
       laws.searches (hierarchy l.signature_of) (length q.1) q.0 budget (laws.lawful g l asks.grammar) (fits_asked g c l qs asks q has).fits
 
-  written_law : (g c : List ℕ) (budget : ℕ) (l : LoadedData) (qs : List Query) → Asks g c l qs → (q : Query) → Has qs q → WrittenLaw (hierarchy l.signature_of) q.0 (search_for l.signature_of budget q)
+  written_law : (g c : List ℕ) (budget : ℕ) (l : LoadedData) (qs : List QueryData) → Asks g c l qs → (q : QueryData) → Has qs q → WrittenLaw (hierarchy l.signature_of) q.0 (search_for l.signature_of budget q)
   written_law g c budget l qs asks q has =
       laws.written (hierarchy l.signature_of) (length q.1) q.0 budget (laws.lawful g l asks.grammar) (fits_asked g c l qs asks q has).fits (fits_asked g c l qs asks q has).plain
 
@@ -156,7 +157,7 @@ module _ (laws : Laws) where
         visible = λ answered l qs asks q has.
             laws.texts l.signature_of q.0 (search_for l.signature_of budget q).answers (laws.lawful g l asks.grammar) (laws.distinct g l asks.grammar)
             (asked_law g c budget l qs asks q has).sound
-            (counted answered l ((laws.loads g (Ok l)).0 asks.grammar) qs ((laws.reads l.signature_of c (Ok qs)).0 asks.commands) q has);
+            (counted answered l ((laws.loads g (Ok l)).0 asks.grammar) qs ((laws.reads l c (Ok qs)).0 asks.commands) q has);
       }
 
   pub ran_on_some : (content : List ℕ → Option (List ℕ)) (job : Job) (budget : ℕ) (r : Status) (old new : Option (List ℕ)) → Reached content job budget r old new → RanOnSome content job budget r old new

@@ -9,8 +9,8 @@ use Rattle.ale_form.specs.declared.error.FormError.{FormError}
 use Rattle.ale_form.specs.declared.error.FormError.TheVariants as form
 use Rattle.ale_hierarchy.specs.declared.error.SigError.{SigError}
 use Rattle.ale_hierarchy.specs.declared.error.SigError.TheVariants as signature
-use Rattle.ale_resolve.specs.declared.error.NameError.{NameError}
-use Rattle.ale_resolve.specs.declared.error.NameError.TheVariants as name
+use Rattle.ale_vocabulary.specs.declared.error.NameError.{NameError}
+use Rattle.ale_vocabulary.specs.declared.error.NameError.TheVariants as name
 use Rattle.ale_print.specs.Naming.{printed_name}
 use Rattle.ale_load.specs.declared.grammar_error.GrammarError.{GrammarError}
 use Rattle.ale_load.specs.declared.grammar_error.GrammarError.TheVariants as grammar
@@ -52,6 +52,45 @@ signature_text (signature.ExtNotMaximal t) = codes "8 ExtNotMaximal" ++ names_en
 signature_text (signature.FillTooLarge t) = codes "9 FillTooLarge" ++ names_end (t ∷ [])
 signature_text signature.NoMemory = []
 
+-- the number and the name of a fault of names
+abbrev pub fault_name : NameError → List ℕ
+fault_name (name.UnknownType n) = codes "1 UnknownType"
+fault_name (name.UnknownFeature n) = codes "2 UnknownFeature"
+fault_name (name.UnknownMacro n k) = codes "3 UnknownMacro"
+fault_name (name.MacroTwice n k) = codes "4 MacroTwice"
+fault_name (name.MacroCycle n k) = codes "5 MacroCycle"
+fault_name name.TooBig = codes "6 TooBig"
+fault_name (name.UnknownPredicate n k) = codes "7 UnknownPredicate"
+fault_name name.NoListTypes = codes "8 NoListTypes"
+fault_name (name.TwoHeads n) = codes "9 TwoHeads"
+fault_name (name.NoDaughter n) = codes "10 NoDaughter"
+fault_name (name.BadDirective n) = codes "11 BadDirective"
+
+-- the end of a line that carries a macro or a predicate: its name and how many arguments it has
+abbrev pub arity_end : List ℕ → ℕ → List ℕ
+arity_end n k = codes " " ++ name_text n ++ codes "/" ++ decimal k ++ codes "\n"
+
+-- what the fault carries, and the end of the line
+abbrev pub fault_end : NameError → List ℕ
+fault_end (name.UnknownType n) = names_end (n ∷ [])
+fault_end (name.UnknownFeature n) = names_end (n ∷ [])
+fault_end (name.UnknownMacro n k) = arity_end n k
+fault_end (name.MacroTwice n k) = arity_end n k
+fault_end (name.MacroCycle n k) = arity_end n k
+fault_end name.TooBig = names_end []
+fault_end (name.UnknownPredicate n k) = arity_end n k
+fault_end name.NoListTypes = names_end []
+fault_end (name.TwoHeads n) = names_end (n ∷ [])
+fault_end (name.NoDaughter n) = names_end (n ∷ [])
+fault_end (name.BadDirective n) = names_end (n ∷ [])
+
+-- the lines of a declaration and of a command with a fault of names
+abbrev pub grammar_names : ℕ → NameError → List ℕ
+grammar_names k e = codes "grammar refused: names " ++ fault_name e ++ codes " declaration " ++ decimal k ++ fault_end e
+
+abbrev pub command_names : ℕ → NameError → List ℕ
+command_names k e = codes "commands refused: 6 Name command " ++ decimal k ++ codes " names " ++ fault_name e ++ fault_end e
+
 -- why a grammar is refused; that memory ran out has no line
 abbrev pub grammar_line : GrammarError → List ℕ
 grammar_line grammar.TooLong = codes "grammar refused: file 1 TooLong\n"
@@ -60,12 +99,8 @@ grammar_line (grammar.Token e) = token_text e
 grammar_line (grammar.Form k e) = form_text k e
 grammar_line (grammar.NotBuilt k) = codes "grammar refused: stage 1 NotBuilt declaration " ++ decimal k ++ codes "\n"
 grammar_line (grammar.Signature e) = codes "grammar refused: signature " ++ signature_text e
+grammar_line (grammar.Names k e) = grammar_names k e
 grammar_line grammar.NoMemory = []
-
-abbrev pub unknown_text : NameError → List ℕ
-unknown_text (name.UnknownType n) = codes " names 1 UnknownType" ++ names_end (n ∷ [])
-unknown_text (name.UnknownFeature n) = codes " names 2 UnknownFeature" ++ names_end (n ∷ [])
-unknown_text name.NoMemory = []
 
 -- why commands are refused; that memory ran out has no line
 abbrev pub command_line : CommandError → List ℕ
@@ -75,7 +110,7 @@ command_line (command.BadToken p) = codes "commands refused: 3 BadToken at " ++ 
 command_line (command.NoEnd p) = codes "commands refused: 4 NoEnd at " ++ decimal p ++ codes "\n"
 command_line (command.BadCommand k) = codes "commands refused: 5 BadCommand command " ++ decimal k ++ codes "\n"
 command_line (command.NotBuilt k) = codes "commands refused: 9 NotBuilt command " ++ decimal k ++ codes "\n"
-command_line (command.Name k e) = codes "commands refused: 6 Name command " ++ decimal k ++ unknown_text e
+command_line (command.Name k e) = command_names k e
 command_line command.NoMemory = []
 
 -- the name of a directive; one that is `-` is written so

@@ -7,7 +7,7 @@ use Rattle.ale_declared.specs.Declarations.{Declared}
 use Rattle.ale_report.specs.Written.{AreCountable}
 use Rattle.ale_load.specs.Files.{file_limit}
 use Rattle.ale_load.specs.Grammars.{LoadedData, load_of}
-use Rattle.ale_load.specs.Commands.{Query, commands_of}
+use Rattle.ale_load.specs.Commands.{QueryData, commands_of}
 use Rattle.ale_top.specs.declared.report.Report.{Report}
 use Rattle.ale_top.specs.declared.running.Input.{Input}
 use Rattle.ale_top.specs.declared.running.Input.TheVariants.{Whole, TooLong}
@@ -36,16 +36,16 @@ unread read.Failed = Err ReadFault
 unread read.NoMemory = Err NoMemory
 
 -- the nodes of all answers can be counted
-abbrev pub AreCounted : Declared → ℕ → List Query → Type 0
-AreCounted d budget qs = (q : Query) → Has qs q → AreCountable (search_for d budget q).answers
+abbrev pub AreCounted : Declared → ℕ → List QueryData → Type 0
+AreCounted d budget qs = (q : QueryData) → Has qs q → AreCountable (search_for d budget q).answers
 
 -- the same of what the commands of the text c ask for
-abbrev pub AreCountedFor : Declared → List ℕ → ℕ → Type 0
-AreCountedFor d c budget = (qs : List Query) → commands_of d c ≡ Ok qs → AreCounted d budget qs
+abbrev pub AreCountedFor : LoadedData → List ℕ → ℕ → Type 0
+AreCountedFor l c budget = (qs : List QueryData) → commands_of l c ≡ Ok qs → AreCounted l.signature_of budget qs
 
 -- and of what the texts ask for
 abbrev pub AreCountedIn : List ℕ → List ℕ → ℕ → Type 0
-AreCountedIn g c budget = (l : LoadedData) → load_of g ≡ Ok l → AreCountedFor l.signature_of c budget
+AreCountedIn g c budget = (l : LoadedData) → load_of g ≡ Ok l → AreCountedFor l c budget
 
 -- There are texts, as stated, of which what the function gives was written; the nodes of all answers that were written could
 -- be counted.

@@ -8,7 +8,7 @@ use Rattle.ale_relation.specs.Has.{Has}
 use Rattle.ale_engine.specs.Engine.{Outcome}
 use Rattle.ale_logic.specs.declared.answer.Answer.{Answer}
 use Rattle.ale_load.specs.Grammars.{LoadedData, IsLoaded}
-use Rattle.ale_load.specs.Commands.{Query, AreCommands}
+use Rattle.ale_load.specs.Commands.{QueryData, AreCommands}
 use Rattle.ale_top.specs.Jobs.{Job, job_of}
 use Rattle.ale_top.specs.Output.{Ending, search_for, Output}
 use Rattle.ale_top.specs.Meanings.{Fixed}
@@ -72,34 +72,34 @@ abbrev pub IsAcceptedGrammar : List ℕ → Type 0
 IsAcceptedGrammar g = (l : LoadedData) × IsLoaded g (Ok l)
 
 -- The texts ask for searches: the grammar is accepted, and the commands describe these nodes.
-pub record Asks (g c : List ℕ) (l : LoadedData) (qs : List Query) : Type 0 where
+pub record Asks (g c : List ℕ) (l : LoadedData) (qs : List QueryData) : Type 0 where
   pub grammar : IsLoaded g (Ok l)
-  pub commands : AreCommands l.signature_of c (Ok qs)
+  pub commands : AreCommands l c (Ok qs)
 
 -- the commands are accepted for the grammar
 abbrev pub AreAccepted : List ℕ → List ℕ → Type 0
-AreAccepted g c = (l : LoadedData) × (qs : List Query) × Asks g c l qs
+AreAccepted g c = (l : LoadedData) × (qs : List QueryData) × Asks g c l qs
 
 -- what holds of the grammar, of each command and of what its search comes to
-abbrev pub OfEachIn : List ℕ → List ℕ → ℕ → (LoadedData → Query → Outcome Answer → Type 0) → Type 0
+abbrev pub OfEachIn : List ℕ → List ℕ → ℕ → (LoadedData → QueryData → Outcome Answer → Type 0) → Type 0
 OfEachIn g c budget P =
-    (l : LoadedData) (qs : List Query) → Asks g c l qs → (q : Query) → Has qs q → P l q (search_for l.signature_of budget q)
+    (l : LoadedData) (qs : List QueryData) → Asks g c l qs → (q : QueryData) → Has qs q → P l q (search_for l.signature_of budget q)
 
 -- the same of all texts
-abbrev pub OfEachCommand : ℕ → (LoadedData → Query → Outcome Answer → Type 0) → Type 0
+abbrev pub OfEachCommand : ℕ → (LoadedData → QueryData → Outcome Answer → Type 0) → Type 0
 OfEachCommand budget P = (g c : List ℕ) → OfEachIn g c budget P
 
 -- every search that is asked for ends within the budget
 abbrev pub Finishes : List ℕ → List ℕ → ℕ → Type 0
 Finishes g c budget =
-    (l : LoadedData) × (qs : List Query) × Asks g c l qs
-    × ((q : Query) → Has qs q → (search_for l.signature_of budget q).finished ≡ true)
+    (l : LoadedData) × (qs : List QueryData) × Asks g c l qs
+    × ((q : QueryData) → Has qs q → (search_for l.signature_of budget q).finished ≡ true)
 
 -- some search that is asked for needs more visits than the budget
 abbrev pub Unfinishes : List ℕ → List ℕ → ℕ → Type 0
 Unfinishes g c budget =
-    (l : LoadedData) × (qs : List Query) × Asks g c l qs
-    × ((q : Query) × Has qs q × ((search_for l.signature_of budget q).finished ≡ false))
+    (l : LoadedData) × (qs : List QueryData) × Asks g c l qs
+    × ((q : QueryData) × Has qs q × ((search_for l.signature_of budget q).finished ≡ false))
 
 -- What a run of a job leaves whose files hold the texts g and c: it wrote the defined output, each status has its cause,
 -- and where all answers were written the text of each fixes its structure.

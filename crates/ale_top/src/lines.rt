@@ -3,15 +3,15 @@ ghost use Rattle.std.specs.Prelude.{◌≡◌, ◌++◌, [], ◌∷◌, codes, O
 ghost use Rattle.std.specs.Fmt.{decimal};
 ghost use Rattle.std.specs.Str.{chars, bytes_eq};
 ghost use Rattle.ale_load.specs.Views.{passed_data};
-ghost use Rattle.ale_top.specs.Lines.{name_text, names_end, token_text, form_text, signature_text, grammar_line, unknown_text, command_line, directive_text, passed_front, passed_line, passed_text, left_out_front};
+ghost use Rattle.ale_top.specs.Lines.{name_text, names_end, token_text, form_text, signature_text, grammar_line, fault_name, fault_end, arity_end, grammar_names, command_names, command_line, directive_text, passed_front, passed_line, passed_text, left_out_front};
 
 use ale_form::FormError;
 use ale_load::{CommandError, GrammarError, Passed};
 use ale_print::print_name;
-use ale_resolve::NameError;
 use ale_signature::SigError;
 use ale_text::Text;
 use ale_token::TokenError;
+use ale_vocabulary::NameError;
 use std::alloc::{AllocError, Global};
 
 // Writes a name as it reads in the language.
@@ -151,6 +151,90 @@ fn push_left_out(out: &mut String, number: usize, word: &Text) -> Result<(), All
     out.push_str("\n")
 }
 
+// Writes the number and the name of a fault of names.
+fn push_fault_name(out: &mut String, error: &NameError) -> Result<(), AllocError>
+    ensures { OnOk result (string_bytes out.new ≡ string_bytes out.old ++ fault_name error.now) }
+{
+    match error {
+        NameError::UnknownType(_) => out.push_str("1 UnknownType"),
+        NameError::UnknownFeature(_) => out.push_str("2 UnknownFeature"),
+        NameError::UnknownMacro(_, _) => out.push_str("3 UnknownMacro"),
+        NameError::MacroTwice(_, _) => out.push_str("4 MacroTwice"),
+        NameError::MacroCycle(_, _) => out.push_str("5 MacroCycle"),
+        NameError::TooBig => out.push_str("6 TooBig"),
+        NameError::UnknownPredicate(_, _) => out.push_str("7 UnknownPredicate"),
+        NameError::NoListTypes => out.push_str("8 NoListTypes"),
+        NameError::TwoHeads(_) => out.push_str("9 TwoHeads"),
+        NameError::NoDaughter(_) => out.push_str("10 NoDaughter"),
+        NameError::BadDirective(_) => out.push_str("11 BadDirective"),
+    }
+}
+
+// Ends a line that carries one name.
+fn push_name_end(alloc: Global, out: &mut String, name: &Text) -> Result<(), AllocError>
+    ensures { OnOk result (string_bytes out.new ≡ string_bytes out.old ++ names_end (name.now ∷ [])) }
+{
+    out.push_str(" ")?;
+    push_name(alloc, out, name)?;
+    out.push_str("\n")
+}
+
+// Ends a line that carries a macro or a predicate.
+fn push_arity_end(alloc: Global, out: &mut String, name: &Text, arity: usize) -> Result<(), AllocError>
+    ensures { OnOk result (string_bytes out.new ≡ string_bytes out.old ++ arity_end name.now arity) }
+{
+    out.push_str(" ")?;
+    push_name(alloc, out, name)?;
+    write!(out, "/{arity}\n")
+}
+
+// Writes what the fault carries, and ends the line.
+fn push_fault_end(alloc: Global, out: &mut String, error: &NameError) -> Result<(), AllocError>
+    ensures { OnOk result (string_bytes out.new ≡ string_bytes out.old ++ fault_end error.now) }
+{
+    match error {
+        NameError::UnknownType(name)
+        | NameError::UnknownFeature(name)
+        | NameError::TwoHeads(name)
+        | NameError::NoDaughter(name)
+        | NameError::BadDirective(name) => push_name_end(alloc, out, name),
+        NameError::UnknownMacro(name, arity)
+        | NameError::MacroTwice(name, arity)
+        | NameError::MacroCycle(name, arity)
+        | NameError::UnknownPredicate(name, arity) => push_arity_end(alloc, out, name, *arity),
+        NameError::TooBig | NameError::NoListTypes => out.push_str("\n"),
+    }
+}
+
+// Writes why a grammar is refused one of whose declarations has a fault of names.
+fn push_grammar_names(
+    alloc: Global,
+    out: &mut String,
+    number: usize,
+    error: &NameError,
+) -> Result<(), AllocError>
+    ensures { OnOk result (string_bytes out.new ≡ string_bytes out.old ++ grammar_names number error.now) }
+{
+    out.push_str("grammar refused: names ")?;
+    push_fault_name(out, error)?;
+    write!(out, " declaration {number}")?;
+    push_fault_end(alloc, out, error)
+}
+
+// Writes why commands are refused one of which has a fault of names.
+fn push_command_names(
+    alloc: Global,
+    out: &mut String,
+    number: usize,
+    error: &NameError,
+) -> Result<(), AllocError>
+    ensures { OnOk result (string_bytes out.new ≡ string_bytes out.old ++ command_names number error.now) }
+{
+    write!(out, "commands refused: 6 Name command {number} names ")?;
+    push_fault_name(out, error)?;
+    push_fault_end(alloc, out, error)
+}
+
 /// Writes why a grammar is refused; nothing where memory ran out.
 pub(crate) fn push_grammar_line(
     alloc: Global,
@@ -176,26 +260,9 @@ pub(crate) fn push_grammar_line(
             out.push_str("grammar refused: signature ")?;
             push_signature(alloc, out, error)
         }
+        GrammarError::Names(number, error) => push_grammar_names(alloc, out, *number, error),
         GrammarError::NoMemory => Ok(()),
     }
-}
-
-// Ends the line of a name that is not declared.
-fn push_unknown(alloc: Global, out: &mut String, error: &NameError) -> Result<(), AllocError>
-    ensures { OnOk result (string_bytes out.new ≡ string_bytes out.old ++ unknown_text error.now) }
-{
-    match error {
-        NameError::UnknownType(name) => push_one(alloc, out, " names 1 UnknownType", name),
-        NameError::UnknownFeature(name) => push_one(alloc, out, " names 2 UnknownFeature", name),
-        NameError::NoMemory => Ok(()),
-    }
-}
-
-// Writes what stands before a name that is not declared.
-fn push_name_front(out: &mut String, number: usize) -> Result<(), AllocError>
-    ensures { OnOk result (string_bytes out.new ≡ string_bytes out.old ++ (codes "commands refused: 6 Name command " ++ decimal number)) }
-{
-    write!(out, "commands refused: 6 Name command {number}")
 }
 
 /// Writes why commands are refused; nothing where memory ran out.
@@ -217,10 +284,7 @@ pub(crate) fn push_command_line(
         CommandError::NotBuilt(number) => {
             write!(out, "commands refused: 9 NotBuilt command {number}\n")
         }
-        CommandError::Name(number, error) => {
-            push_name_front(out, *number)?;
-            push_unknown(alloc, out, error)
-        }
+        CommandError::Name(number, error) => push_command_names(alloc, out, *number, error),
         CommandError::NoMemory => Ok(()),
     }
 }

@@ -3,7 +3,7 @@ ghost use Rattle.std.specs.Prelude.{◌≡◌, ◌≢◌, ◌++◌, ℕ, List, O
 ghost use Rattle.ale_hierarchy.specs.Order.{hierarchy};
 ghost use Rattle.ale_load.specs.declared.grammar_error.GrammarError.TheVariants as grammar;
 ghost use Rattle.ale_load.specs.declared.command_error.CommandError.TheVariants as command;
-ghost use Rattle.ale_load.specs.Grammars.{load_of};
+ghost use Rattle.ale_load.specs.Grammars.{FitsLoaded, load_of};
 ghost use Rattle.ale_load.specs.Commands.{AllFit, commands_of};
 ghost use Rattle.ale_load.specs.Views.{loaded_data, query_data};
 ghost use Rattle.ale_load.specs.Results.{LoadGives, CommandsGive};
@@ -15,9 +15,8 @@ ghost use Rattle.ale_top.specs.Runs.{IsReported};
 use crate::lines::{push_all_passed, push_command_line, push_grammar_line};
 use crate::report::Report;
 use crate::status::Status;
-use ale_load::{CommandError, GrammarError, Loaded, load, read_commands};
+use ale_load::{CommandError, GrammarError, Loaded, Query, load, read_commands};
 use ale_report::push_command;
-use ale_resolve::Described;
 use ale_signature::Signature;
 use std::alloc::{AllocError, Global};
 
@@ -65,7 +64,7 @@ fn push_commands(
     alloc: Global,
     out: &mut String,
     sig: &Signature,
-    queries: &[Described],
+    queries: &[Query],
     budget: u64,
 ) -> Result<bool, AllocError>
     requires { AllFit (hierarchy sig.now) (map query_data queries.now) }
@@ -86,7 +85,7 @@ fn push_commands(
 fn answered(
     alloc: Global,
     loaded: &Loaded,
-    queries: &[Described],
+    queries: &[Query],
     budget: u64,
 ) -> Result<Report, AllocError>
     requires { AllFit (hierarchy loaded.now.signature) (map query_data queries.now) }
@@ -108,7 +107,8 @@ fn answered(
 
 // The grammar of what was read.
 fn load_input(alloc: Global, grammar: &Input) -> Result<Loaded, GrammarError>
-    ensures { (g : List ℕ) → IsInput grammar.now g → LoadGives loaded_data result (load_of g) }
+    ensures exact { (g : List ℕ) → IsInput grammar.now g → LoadGives loaded_data result (load_of g) }
+    ensures fits { IfOk result (λ l. FitsLoaded (loaded_data l)) }
 {
     match grammar {
         Input::Whole(bytes) => load(alloc, bytes.as_slice()),
@@ -120,13 +120,14 @@ fn load_input(alloc: Global, grammar: &Input) -> Result<Loaded, GrammarError>
 fn read_input(
     alloc: Global,
     commands: &Input,
-    sig: &Signature,
-) -> Result<Vec<Described>, CommandError>
-    ensures exact { (c : List ℕ) → IsInput commands.now c → CommandsGive (λ v. map query_data v.items) result (commands_of sig.now c) }
-    ensures fit { IfOk result (λ v. AllFit (hierarchy sig.now) (map query_data v.items)) }
+    loaded: &Loaded,
+) -> Result<Vec<Query>, CommandError>
+    requires { FitsLoaded (loaded_data loaded.now) }
+    ensures exact { (c : List ℕ) → IsInput commands.now c → CommandsGive (λ v. map query_data v.items) result (commands_of (loaded_data loaded.now) c) }
+    ensures fit { IfOk result (λ v. AllFit (hierarchy loaded.now.signature) (map query_data v.items)) }
 {
     match commands {
-        Input::Whole(bytes) => read_commands(alloc, bytes.as_slice(), sig),
+        Input::Whole(bytes) => read_commands(alloc, bytes.as_slice(), loaded),
         Input::TooLong => Err(CommandError::TooLong),
     }
 }
@@ -138,12 +139,13 @@ fn report_commands(
     commands: &Input,
     budget: u64,
 ) -> Result<Report, AllocError>
+    requires { FitsLoaded (loaded_data loaded.now) }
     ensures report { (c : List ℕ) → IsInput commands.now c
-        → IfOk result (λ r. report_of r ≡ after_commands (loaded_data loaded.now) budget (commands_of loaded.now.signature c)) }
+        → IfOk result (λ r. report_of r ≡ after_commands (loaded_data loaded.now) budget (commands_of (loaded_data loaded.now) c)) }
     ensures kind { IfOk result (λ r. IsReported r.status) }
-    ensures counted { (c : List ℕ) → IsInput commands.now c → OnOk result (AreCountedFor loaded.now.signature c budget) }
+    ensures counted { (c : List ℕ) → IsInput commands.now c → OnOk result (AreCountedFor (loaded_data loaded.now) c budget) }
 {
-    match read_input(alloc, commands, &loaded.signature) {
+    match read_input(alloc, commands, loaded) {
         Ok(queries) => answered(alloc, loaded, queries.as_slice(), budget),
         Err(CommandError::NoMemory) => Err(AllocError),
         Err(error) => commands_refused(alloc, &error),

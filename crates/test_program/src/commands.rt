@@ -1,33 +1,20 @@
 //! Commands that are read, and the refusals of others.
-use ale_load::{CommandError, load, read_commands};
-use ale_resolve::{Described, NameError};
-use ale_signature::Signature;
+ghost use Rattle.ale_load.specs.Grammars.{FitsLoaded};
+ghost use Rattle.ale_load.specs.Views.{loaded_data};
+
+use crate::names::push_name_error;
+use ale_load::{CommandError, Loaded, Query, load, read_commands};
 use std::alloc::{AllocError, Global};
 use test_support::bytes_of;
 
 /// Writes the variables of what is asked for.
-fn push_variables(described: &Described, out: &mut String) -> Result<(), AllocError> {
+fn push_variables(query: &Query, out: &mut String) -> Result<(), AllocError> {
     out.push_str("variables")?;
-    for name in described.names.as_slice() {
+    for name in query.names.as_slice() {
         out.push_str(" ")?;
         out.push_str(name.as_str())?;
     }
     out.push('\n')
-}
-
-/// Writes which name is unknown.
-fn push_name_error(error: &NameError, out: &mut String) -> Result<(), AllocError> {
-    match error {
-        NameError::UnknownType(name) => {
-            let name = name.as_str();
-            write!(out, "UnknownType {name}\n")
-        }
-        NameError::UnknownFeature(name) => {
-            let name = name.as_str();
-            write!(out, "UnknownFeature {name}\n")
-        }
-        NameError::NoMemory => out.push_str("NoMemory\n"),
-    }
 }
 
 /// Writes why commands are refused.
@@ -41,7 +28,8 @@ fn push_error(error: &CommandError, out: &mut String) -> Result<(), AllocError> 
         CommandError::NotBuilt(number) => write!(out, "{number} NotBuilt\n"),
         CommandError::Name(number, error) => {
             write!(out, "{number} ")?;
-            push_name_error(error, out)
+            push_name_error(error, out)?;
+            out.push('\n')
         }
         CommandError::NoMemory => out.push_str("NoMemory\n"),
     }
@@ -49,13 +37,13 @@ fn push_error(error: &CommandError, out: &mut String) -> Result<(), AllocError> 
 
 /// Writes what commands are read as.
 fn push_read(
-    read: &Result<Vec<Described>, CommandError>,
+    read: &Result<Vec<Query>, CommandError>,
     out: &mut String,
 ) -> Result<(), AllocError> {
     match read {
-        Ok(asked) => {
-            for described in asked.as_slice() {
-                push_variables(described, out)?;
+        Ok(queries) => {
+            for query in queries.as_slice() {
+                push_variables(query, out)?;
             }
             Ok(())
         }
@@ -63,10 +51,12 @@ fn push_read(
     }
 }
 
-/// What commands are read as over a signature.
-fn asked(alloc: Global, sig: &Signature, bytes: &[u8]) -> Result<String, AllocError> {
+/// What commands are read as over an accepted grammar.
+fn asked(alloc: Global, loaded: &Loaded, bytes: &[u8]) -> Result<String, AllocError>
+    requires { FitsLoaded (loaded_data loaded.now) }
+{
     let mut out = String::new(alloc);
-    push_read(&read_commands(alloc, bytes, sig), &mut out)?;
+    push_read(&read_commands(alloc, bytes, loaded), &mut out)?;
     Ok(out)
 }
 
@@ -74,7 +64,7 @@ fn asked(alloc: Global, sig: &Signature, bytes: &[u8]) -> Result<String, AllocEr
 pub fn commands_of(alloc: Global, grammar: &str, commands: &str) -> Result<String, AllocError> {
     let bytes = bytes_of(alloc, commands)?;
     match &load(alloc, grammar.as_bytes()) {
-        Ok(loaded) => asked(alloc, &loaded.signature, bytes.as_slice()),
+        Ok(loaded) => asked(alloc, loaded, bytes.as_slice()),
         Err(_) => String::from_str(alloc, "no grammar\n"),
     }
 }

@@ -1,4 +1,5 @@
 //! Grammars that are loaded, and the refusals of others.
+use crate::names::{push_name_error, push_named};
 use ale_form::FormError;
 use ale_load::{GrammarError, Loaded, Passed, load};
 use ale_signature::SigError;
@@ -47,12 +48,6 @@ fn push_form_error(error: &FormError, out: &mut String) -> Result<(), AllocError
     }
 }
 
-/// Writes a word and a name.
-fn push_named(word: &str, name: &Text, out: &mut String) -> Result<(), AllocError> {
-    let name = name.as_str();
-    write!(out, "{word} {name}")
-}
-
 /// Writes a space and a name.
 fn push_name(name: &Text, out: &mut String) -> Result<(), AllocError> {
     out.push_str(" ")?;
@@ -99,6 +94,10 @@ fn push_error(error: &GrammarError, out: &mut String) -> Result<(), AllocError> 
         }
         GrammarError::NotBuilt(number) => write!(out, "{number} NotBuilt"),
         GrammarError::Signature(error) => push_sig_error(error, out),
+        GrammarError::Names(number, error) => {
+            write!(out, "{number} ")?;
+            push_name_error(error, out)
+        }
         GrammarError::NoMemory => out.push_str("NoMemory"),
     }
 }

@@ -4,6 +4,7 @@
 
 mod commands;
 mod loads;
+mod names;
 mod runs;
 
 use commands::commands_of;

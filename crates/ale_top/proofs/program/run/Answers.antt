@@ -11,6 +11,7 @@ laws g c = record {
   loads = c.load_law.ensures.loads;
   lawful = c.load_law.ensures.lawful;
   distinct = c.load_law.ensures.distinct;
+  fits = c.load_law.ensures.fit;
   reads = c.commands_law.ensures.reads;
   fit = c.commands_law.ensures.fit;
   searches = c.search_law.ensures;

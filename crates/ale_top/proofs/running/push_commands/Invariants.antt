@@ -3,7 +3,7 @@ use Rattle.std.proofs.Common.{◌≡◌, ◌⊎◌, ◌++◌, ◌&&◌, suc, map
 use Rattle.ale_relation.specs.Has.{Has}
 use Rattle.ale_hierarchy.specs.Order.{hierarchy}
 use Rattle.ale_report.specs.Written.{AreCountable}
-use Rattle.ale_load.specs.Commands.{Query, AllFit}
+use Rattle.ale_load.specs.Commands.{QueryData, AllFit}
 use Rattle.ale_load.specs.Views.{query_data}
 use Rattle.ale_top.specs.Output.{search_for, commands_text, all_finished}
 use Rattle.ale_top.proofs.running.push_commands.Given as goal
@@ -14,5 +14,5 @@ invariant-loop-index l = record {
   so_far : string_bytes l.out ++ commands_text l.sig l.budget (suc l.index) (map query_data (drop l.index l.queries))
       ≡ string_bytes l.fn.out ++ commands_text l.sig l.budget 1 (map query_data l.queries);
   ended : (l.finished && all_finished l.sig l.budget (map query_data (drop l.index l.queries))) ≡ all_finished l.sig l.budget (map query_data l.queries);
-  counted : (p : Query) → Has (map query_data l.queries) p → Has (map query_data (drop l.index l.queries)) p ⊎ AreCountable (search_for l.sig l.budget p).answers;
+  counted : (p : QueryData) → Has (map query_data l.queries) p → Has (map query_data (drop l.index l.queries)) p ⊎ AreCountable (search_for l.sig l.budget p).answers;
 }
