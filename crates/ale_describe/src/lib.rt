@@ -15,3 +15,4 @@ pub use grammar::{macros, macros_law};
 pub use laws::{calls_law, describe_law, limits_law, plain_law};
 pub use names::Names;
 pub use scope::Scope;
+pub use slots::Slots;

@@ -1,5 +1,5 @@
 -- The defined output: the relation and the function say the same, and which status stands for which cause.
-use Rattle.std.proofs.Common.{◌≡◌, ◌↔◌, ℕ, Bool, true, false, ◌&&◌, List, [], ◌∷◌, ◌++◌, ◌⊎◌, inl, inr, Result, Ok, Err, refl, sym, ap, ◌∙◌, subst}
+use Rattle.std.proofs.Common.{◌≡◌, ◌↔◌, ℕ, Bool, true, false, ◌&&◌, List, [], ◌∷◌, inl, inr, Result, Ok, Err, refl, sym, ap, ◌∙◌, subst}
 use Rattle.ale_relation.specs.Has.{Has}
 use Rattle.ale_declared.specs.Declarations.{Declared}
 use Rattle.ale_load.specs.declared.grammar_error.GrammarError.{GrammarError}

@@ -1,5 +1,5 @@
 -- What the reading of a file comes to, of bytes that are stated or of any.
-use Rattle.std.proofs.Common.{◌≡◌, ℕ, suc, ◌<◌, ◌≤◌, Option, None, Some, IfOk, List, [], length, replicate, refl, sym, ap, subst, arith, Result, Err}
+use Rattle.std.proofs.Common.{◌≡◌, ℕ, suc, ◌<◌, ◌≤◌, Option, None, Some, IfOk, List, length, replicate, refl, sym, ap, subst, arith, Result, Err}
 use Rattle.std.specs.Prelude.{IfSome}
 use Rattle.ale_base.specs.declared.reading.ReadError.{ReadError}
 use Rattle.ale_base.specs.declared.reading.ReadError.TheVariants as read

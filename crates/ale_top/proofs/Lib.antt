@@ -5,3 +5,5 @@ pub mod Looping
 pub mod Refused
 pub mod Runs
 pub mod Words
+pub mod Pieces
+pub mod Accepted

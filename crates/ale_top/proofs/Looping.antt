@@ -1,5 +1,5 @@
 -- Loops that write: what was written, before what is left to write.
-use Rattle.std.proofs.Common.{◌≡◌, ℕ, suc, ◌+◌, ◌<◌, Bool, true, false, ◌&&◌, List, [], ◌∷◌, ◌++◌, ◌⊎◌, inl, inr, map, drop, get_or, length, refl, sym, ap, ◌∙◌, subst, append_assoc, add-one}
+use Rattle.std.proofs.Common.{◌≡◌, ℕ, suc, ◌+◌, ◌<◌, Bool, true, false, ◌&&◌, List, ◌∷◌, ◌++◌, ◌⊎◌, inl, inr, map, drop, get_or, length, refl, sym, ap, ◌∙◌, subst, append_assoc, add-one}
 use Rattle.ale_declared.specs.Declarations.{Declared}
 use Rattle.ale_hierarchy.specs.Hierarchy.{Hierarchy}
 use Rattle.ale_hierarchy.proofs.LoopLemmas.{drop_item}

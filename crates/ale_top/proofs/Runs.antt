@@ -1,5 +1,5 @@
 -- What a run of a job gives, from the defined output and the laws of the layers below.
-use Rattle.std.proofs.Common.{◌≡◌, ◌↔◌, ◌⊎◌, ℕ, List, [], ◌∷◌, length, Option, None, Some, Ok, inl, inr, refl, sym, ap, ◌∙◌, subst, append-nil}
+use Rattle.std.proofs.Common.{◌≡◌, ◌↔◌, ◌⊎◌, ℕ, List, [], ◌∷◌, length, Option, None, Some, Ok, inl, inr, refl, sym, ◌∙◌, subst, append-nil}
 use Rattle.std.specs.Io.KnownBytes.{Appends}
 use Rattle.ale_relation.specs.Has.{Has}
 use Rattle.ale_hierarchy.specs.Hierarchy.{Hierarchy}

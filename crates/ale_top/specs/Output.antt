@@ -1,5 +1,5 @@
 -- The defined output: what the program ends with and what it writes, for a grammar, commands and a budget.
-use Rattle.std.specs.Prelude.{◌≡◌, ℕ, suc, Bool, true, false, ◌&&◌, Result, Ok, Err, List, [], ◌∷◌, ◌++◌, codes, length}
+use Rattle.std.specs.Prelude.{ℕ, suc, Bool, true, false, ◌&&◌, Result, Ok, Err, List, [], ◌∷◌, ◌++◌, codes, length}
 use Rattle.ale_declared.specs.Declarations.{Declared}
 use Rattle.ale_engine.specs.Engine.{Outcome}
 use Rattle.ale_logic.specs.declared.answer.Answer.{Answer}

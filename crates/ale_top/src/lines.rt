@@ -180,7 +180,12 @@ fn push_name_end(alloc: Global, out: &mut String, name: &Text) -> Result<(), All
 }
 
 // Ends a line that carries a macro or a predicate.
-fn push_arity_end(alloc: Global, out: &mut String, name: &Text, arity: usize) -> Result<(), AllocError>
+fn push_arity_end(
+    alloc: Global,
+    out: &mut String,
+    name: &Text,
+    arity: usize,
+) -> Result<(), AllocError>
     ensures { OnOk result (string_bytes out.new ≡ string_bytes out.old ++ arity_end name.now arity) }
 {
     out.push_str(" ")?;

@@ -117,11 +117,7 @@ fn load_input(alloc: Global, grammar: &Input) -> Result<Loaded, GrammarError>
 }
 
 // The commands of what was read.
-fn read_input(
-    alloc: Global,
-    commands: &Input,
-    loaded: &Loaded,
-) -> Result<Vec<Query>, CommandError>
+fn read_input(alloc: Global, commands: &Input, loaded: &Loaded) -> Result<Vec<Query>, CommandError>
     requires { FitsLoaded (loaded_data loaded.now) }
     ensures exact { (c : List ℕ) → IsInput commands.now c → CommandsGive (λ v. map query_data v.items) result (commands_of (loaded_data loaded.now) c) }
     ensures fit { IfOk result (λ v. AllFit (hierarchy loaded.now.signature) (map query_data v.items)) }

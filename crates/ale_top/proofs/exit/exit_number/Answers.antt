@@ -1,4 +1,4 @@
-use Rattle.std.proofs.Common.{◌≡◌, List, ℕ, map, drop, string_bytes, ap, ◌∙◌, subst}
+use Rattle.std.proofs.Common.{List, ℕ, map, drop, string_bytes, ap, ◌∙◌, subst}
 use Rattle.ale_top.specs.Exits.{Exits}
 use Rattle.ale_top.specs.Runs.{default_budget}
 use Rattle.ale_top.proofs.exit.exit_number.Goals as goal
