@@ -1,5 +1,5 @@
 -- The tests of names and of variables decide what the forms say of them.
-use Rattle.std.proofs.Common.{◌≡◌, ◌≢◌, ◌⊎◌, inl, inr, ℕ, Bool, true, false, not, ◌&&◌, ◌||◌, List, [], ◌∷◌, refl, sym, ap, subst}
+use Rattle.std.proofs.Common.{◌≡◌, ◌≢◌, ◌⊎◌, inl, inr, ℕ, Bool, true, false, not, ◌&&◌, ◌||◌, List, [], ◌∷◌, ◌++◌, refl, sym, ap, ◌∙◌, subst}
 use Rattle.std.specs.Prelude.{codes}
 use Rattle.std.specs.Str.{bytes_eq}
 use Rattle.std.proofs.lemmas.Slice.Eq.{bytes_eq-Decides}
@@ -7,6 +7,11 @@ use Rattle.ale_relation.specs.Has.{Has}
 use Rattle.ale_declaration.specs.declared.declaration.LinePart.{LinePart}
 use Rattle.ale_declaration.specs.declared.declaration.LinePart.TheVariants.{Piece, Slot}
 use Rattle.ale_declaration.specs.Forms.{AreDistinct, IsBound}
+use Rattle.std.proofs.lemmas.Bool.{cases_Bool}
+use Rattle.ale_declared.specs.Names.{is_named, numbered}
+use Rattle.ale_declared.proofs.ListLemmas.{Has-append_cases, Has-append_left, Has-append_right}
+use Rattle.ale_declared.proofs.NumberLemmas.{is_named_has, is_named_from, Has-numbered, numbered_has}
+use Rattle.ale_declaration.specs.Distinct.{distinct_after, slots_in, is_told_by, is_bound_by}
 use Rattle.ale_declaration.specs.Reading.{has_name, are_distinct, is_slot, has_slot, is_told, is_bound}
 
 either_true : (a b : Bool) → (a || b) ≡ true → (a ≡ true) ⊎ (b ≡ true)
@@ -120,3 +125,116 @@ true_bound left (p ∷ right) e x (inl s) =
     let b = both_true (is_told left p) (is_bound left right) e in true_told left p (b.0) x s
 true_bound left (p ∷ right) e x (inr h) =
     let b = both_true (is_told left p) (is_bound left right) e in true_bound left right (b.1) x h
+
+-- Names are distinct exactly where each is new after those before it.
+
+abbrev AllNew : List (List ℕ) → List (List ℕ) → Type 0
+AllNew seen [] = Unit {0}
+AllNew seen (x ∷ xs) = ((x ≡ codes "_" → ⊥) → Has seen x → ⊥) × AllNew seen xs
+
+all_new_first : (xs : List (List ℕ)) → AllNew [] xs
+all_new_first [] = tt
+all_new_first (x ∷ xs) = (λ n h. absurd h, all_new_first xs)
+
+all_new_with : (seen : List (List ℕ)) (x : List ℕ) (xs : List (List ℕ)) → AllNew seen xs → (Has xs x → ⊥) → AllNew (seen ++ x ∷ []) xs
+all_new_with seen x [] a n = tt
+all_new_with seen x (y ∷ ys) a n = (
+  λ m h. elim (Has-append_cases seen (x ∷ []) y h) [ inl g ↦ a.0 m g | inr (inl e) ↦ n (inl (sym e)) | inr (inr g) ↦ absurd g ],
+  all_new_with seen x ys a.1 (λ h. n (inr h)),
+)
+
+all_new_without : (seen : List (List ℕ)) (x : List ℕ) (xs : List (List ℕ)) → AllNew (seen ++ x ∷ []) xs → AllNew seen xs
+all_new_without seen x [] a = tt
+all_new_without seen x (y ∷ ys) a = (λ m h. a.0 m (Has-append_left seen (x ∷ []) y h), all_new_without seen x ys a.1)
+
+not_new : (seen : List (List ℕ)) (xs : List (List ℕ)) (x : List ℕ) → AllNew seen xs → Has xs x → (x ≡ codes "_" → ⊥) → Has seen x → ⊥
+not_new seen [] x a k m h = absurd k
+not_new seen (y ∷ ys) x a (inl e) m h = a.0 (λ f. m (e ∙ f)) (subst (Has seen) e h)
+not_new seen (y ∷ ys) x a (inr k) m h = not_new seen ys x a.1 k m h
+
+not_false : (b : Bool) → b ≡ false → b ≡ true → ⊥
+not_false b f t = let e : true ≡ false = sym t ∙ f in absurd cc
+
+false_unless : (b : Bool) → (b ≡ true → ⊥) → b ≡ false
+false_unless true h = absurd (h refl)
+false_unless false h = refl
+
+after_true : (seen xs : List (List ℕ)) → AllNew seen xs → AreDistinct xs → distinct_after seen xs ≡ true
+after_true seen [] a d = refl
+after_true seen (x ∷ xs) a d = elim (cases_Bool (bytes_eq x (codes "_"))) [
+  | inl e ↦ rw e (after_true seen xs a.1 d.1)
+  | inr e ↦
+      let m : (x ≡ codes "_" → ⊥) = λ f. not_false (bytes_eq x (codes "_")) e (same_true x (codes "_") f) in
+      let f : is_named x seen ≡ false = false_unless (is_named x seen) (λ t. a.0 m (is_named_has x seen t)) in
+      rw e (rw f (after_true (seen ++ x ∷ []) xs (all_new_with seen x xs a.1 (d.0 m)) d.1))
+]
+
+after_own : (seen : List (List ℕ)) (x : List ℕ) (xs : List (List ℕ)) → bytes_eq x (codes "_") ≡ true → distinct_after seen (x ∷ xs) ≡ distinct_after seen xs
+after_own seen x xs e = rw e refl
+
+after_other : (seen : List (List ℕ)) (x : List ℕ) (xs : List (List ℕ)) → bytes_eq x (codes "_") ≡ false → is_named x seen ≡ false →
+    distinct_after seen (x ∷ xs) ≡ distinct_after (seen ++ x ∷ []) xs
+after_other seen x xs e f = rw e (rw f refl)
+
+after_known : (seen : List (List ℕ)) (x : List ℕ) (xs : List (List ℕ)) → bytes_eq x (codes "_") ≡ false → is_named x seen ≡ true → distinct_after seen (x ∷ xs) ≡ false
+after_known seen x xs e f = rw e (rw f refl)
+
+true_after : (seen xs : List (List ℕ)) → distinct_after seen xs ≡ true → AllNew seen xs × AreDistinct xs
+true_after seen [] t = (tt, tt)
+true_after seen (x ∷ xs) t = elim (cases_Bool (bytes_eq x (codes "_"))) [
+  | inl e ↦
+      let f : x ≡ codes "_" = true_same x (codes "_") e in
+      let r = true_after seen xs (sym (after_own seen x xs e) ∙ t) in
+      ((λ n h. n f, r.0), (λ n h. n f, r.1))
+  | inr e ↦ elim (cases_Bool (is_named x seen)) [
+    | inl g ↦ absurd (not_false (distinct_after seen (x ∷ xs)) (after_known seen x xs e g) t)
+    | inr g ↦
+        let r = true_after (seen ++ x ∷ []) xs (sym (after_other seen x xs e g) ∙ t) in (
+          (λ n h. not_false (is_named x seen) g (is_named_from x seen h), all_new_without seen x xs r.0),
+          (λ n h. not_new (seen ++ x ∷ []) xs x r.0 h n (Has-append_right seen (x ∷ []) x (inl refl)), r.1),
+        )
+  ]
+]
+
+pub distinct_first : (xs : List (List ℕ)) → distinct_after [] xs ≡ are_distinct xs
+distinct_first xs = elim (cases_Bool (are_distinct xs)) [
+  | inl t ↦ after_true [] xs (all_new_first xs) (true_distinct xs t) ∙ sym t
+  | inr f ↦ false_unless (distinct_after [] xs) (λ t. not_false (are_distinct xs) f (distinct_true xs (true_after [] xs t).1)) ∙ sym f
+]
+
+-- A right side is bound by the variables of the left.
+
+same_tests : (a b : Bool) → (a ≡ true → b ≡ true) → (b ≡ true → a ≡ true) → a ≡ b
+same_tests true b f g = sym (f refl)
+same_tests false true f g = g refl
+same_tests false false f g = refl
+
+slot_among : (ps : List LinePart) (x : List ℕ) → Has ps (Slot x) → Has (slots_in ps) x
+slot_among [] x h = absurd h
+slot_among (Piece n ∷ ps) x (inl e) = cc
+slot_among (Piece n ∷ ps) x (inr h) = slot_among ps x h
+slot_among (Slot y ∷ ps) x (inl e) = inl cc
+slot_among (Slot y ∷ ps) x (inr h) = inr (slot_among ps x h)
+
+among_slots : (ps : List LinePart) (x : List ℕ) → Has (slots_in ps) x → Has ps (Slot x)
+among_slots [] x h = absurd h
+among_slots (Piece n ∷ ps) x h = inr (among_slots ps x h)
+among_slots (Slot y ∷ ps) x (inl e) = inl (ap Slot e)
+among_slots (Slot y ∷ ps) x (inr h) = inr (among_slots ps x h)
+
+only_those : (xs : List (List ℕ)) (x : List ℕ) → Has (numbered [] xs) x → Has xs x
+only_those xs x h = elim (numbered_has [] xs x h) [ inl g ↦ absurd g | inr g ↦ g ]
+
+named_slot : (left : List LinePart) (x : List ℕ) → is_named x (numbered [] (slots_in left)) ≡ has_slot left x
+named_slot left x =
+    same_tests (is_named x (numbered [] (slots_in left))) (has_slot left x)
+    (λ t. slot_true left x (among_slots left x (only_those (slots_in left) x (is_named_has x (numbered [] (slots_in left)) t))))
+    (λ t. is_named_from x (numbered [] (slots_in left)) (Has-numbered [] (slots_in left) x (slot_among left x (true_slot left x t))))
+
+told_by : (left : List LinePart) (p : LinePart) → is_told_by (numbered [] (slots_in left)) p ≡ is_told left p
+told_by left (Piece n) = refl
+told_by left (Slot x) = ap (λ b. not (bytes_eq x (codes "_")) && b) (named_slot left x)
+
+pub bound_by : (left right : List LinePart) → is_bound_by (numbered [] (slots_in left)) right ≡ is_bound left right
+bound_by left [] = refl
+bound_by left (p ∷ right) = ap (λ b. b && is_bound_by (numbered [] (slots_in left)) right) (told_by left p) ∙ ap (λ b. is_told left p && b) (bound_by left right)

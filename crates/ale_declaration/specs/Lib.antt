@@ -3,3 +3,4 @@ pub mod Forms
 pub mod Directives
 pub mod Answers
 pub mod Reading
+pub mod Distinct

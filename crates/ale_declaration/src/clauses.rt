@@ -87,7 +87,7 @@ fn parameters(alloc: Global, lexemes: &[Lexeme]) -> Result<(Row<Text>, &[Lexeme]
     };
     let (names, rest) = variables(alloc, inner)?;
     let behind = past(rest, Symbol::CloseRound).ok_or(ReadError::NotTheForm)?;
-    if !are_distinct(&names) {
+    if !are_distinct(alloc, &names)? {
         return Err(ReadError::NotTheForm);
     }
     Ok((Row::of(names), behind))

@@ -14,6 +14,7 @@ mod lines;
 mod list;
 mod read;
 mod rules;
+mod seen;
 mod types;
 
 pub use declaration::{Declaration, LinePart, MorphLine, Part};

@@ -1,16 +1,19 @@
 //! Lines of morphology.
-ghost use Rattle.std.specs.Prelude.{◌≡◌, Some, length, [], ◌∷◌};
+ghost use Rattle.std.specs.Prelude.{◌≡◌, IfOk, Some, length, [], ◌∷◌};
+ghost use Rattle.ale_declared.specs.Names.{numbered};
 ghost use Rattle.ale_term.specs.declared.symbol.Symbol.TheVariants.{Comma};
 ghost use Rattle.ale_term.specs.Results.{Gives};
 ghost use Rattle.ale_term.specs.Reading.{more_at};
 ghost use Rattle.ale_declaration.specs.Forms.{pieces};
-ghost use Rattle.ale_declaration.specs.Reading.{piece_at, flat_behind, side_at, is_slot, has_slot, is_told, is_bound, line_at};
+ghost use Rattle.ale_declaration.specs.Distinct.{slots_in, is_told_by, is_bound_by};
+ghost use Rattle.ale_declaration.specs.Reading.{piece_at, flat_behind, side_at, is_bound, line_at};
 
 use crate::declaration::{LinePart, MorphLine};
-use crate::list::{extend, is_same, some_atoms};
+use crate::list::{extend, some_atoms};
+use crate::seen::Seen;
 use ale_term::{Lexeme, ReadError, Symbol, add, atom_at, is_word, past, past_word, variable_at};
 use ale_text::{Row, Text};
-use std::alloc::Global;
+use std::alloc::{AllocError, Global};
 
 /// The atoms one after the other.
 fn letters(alloc: Global, names: &[Text]) -> Result<Vec<LinePart>, ReadError>
@@ -80,49 +83,48 @@ fn side(alloc: Global, lexemes: &[Lexeme]) -> Result<(Vec<LinePart>, &[Lexeme]),
     Ok((parts, behind))
 }
 
-/// Whether the part is the variable with this name.
-fn is_slot(part: &LinePart, name: &Text) -> bool
-    ensures { result ≡ is_slot part.now name.now }
+/// The variables of a side, each once.
+fn slots_in(alloc: Global, parts: &[LinePart]) -> Result<Seen, AllocError>
+    ensures { IfOk result (λ s. s ≡ numbered [] (slots_in parts.now)) }
 {
-    match part {
-        LinePart::Piece(_) => false,
-        LinePart::Slot(other) => is_same(other, name),
-    }
-}
-
-/// Whether the variable with this name is among the parts.
-fn has_slot(parts: &[LinePart], name: &Text) -> bool
-    ensures { result ≡ has_slot parts.now name.now }
-{
+    let mut slots = Seen::new(alloc);
     for part in parts {
-        if is_slot(part, name) {
-            return true;
+        if let LinePart::Slot(name) = part {
+            slots.add(alloc, name)?;
         }
     }
-    false
+    Ok(slots)
 }
 
-/// Whether what the left side matches tells what this part of the right side is.
+/// Whether these variables tell what this part of a right side is.
 #[tactic(auto, using(crate::proofs::Words::word_rules))]
-fn is_told(left: &[LinePart], part: &LinePart) -> bool
-    ensures { result ≡ is_told left.now part.now }
+fn is_told(slots: &Seen, part: &LinePart) -> bool
+    ensures { result ≡ is_told_by slots.now part.now }
 {
     match part {
         LinePart::Piece(_) => true,
-        LinePart::Slot(name) => !is_word(name, "_") && has_slot(left, name),
+        LinePart::Slot(name) => !is_word(name, "_") && slots.has(name),
     }
 }
 
-/// Whether it tells this of each part of the right side.
-fn is_bound(left: &[LinePart], right: &[LinePart]) -> bool
-    ensures { result ≡ is_bound left.now right.now }
+/// Whether they tell it of each part.
+fn are_told(slots: &Seen, parts: &[LinePart]) -> bool
+    ensures { result ≡ is_bound_by slots.now parts.now }
 {
-    for part in right {
-        if !is_told(left, part) {
+    for part in parts {
+        if !is_told(slots, part) {
             return false;
         }
     }
     true
+}
+
+/// Whether what the left side matches tells what each part of the right side is.
+fn is_bound(alloc: Global, left: &[LinePart], right: &[LinePart]) -> Result<bool, AllocError>
+    ensures { IfOk result (λ bound. bound ≡ is_bound left.now right.now) }
+{
+    let slots = slots_in(alloc, left)?;
+    Ok(are_told(&slots, right))
 }
 
 /// A line of morphology.
@@ -133,7 +135,7 @@ pub(crate) fn line(alloc: Global, lexemes: &[Lexeme]) -> Result<(MorphLine, &[Le
     let (left, behind) = side(alloc, lexemes)?;
     let inner = past_word(behind, "becomes").ok_or(ReadError::NotTheForm)?;
     let (right, rest) = side(alloc, inner)?;
-    if !is_bound(&left, &right) {
+    if !is_bound(alloc, &left, &right)? {
         return Err(ReadError::NotTheForm);
     }
     let (left, right) = (Row::of(left), Row::of(right));

@@ -1,9 +1,10 @@
 //! Lists that are read, and the tests of names.
-ghost use Rattle.std.specs.Prelude.{◌≡◌, ◌++◌, OnOk};
-ghost use Rattle.std.specs.Str.{bytes_eq};
+ghost use Rattle.std.specs.Prelude.{◌≡◌, ◌++◌, IfOk, OnOk};
 ghost use Rattle.ale_term.specs.Results.{Gives};
-ghost use Rattle.ale_declaration.specs.Reading.{atoms_at, has_name, are_distinct};
+ghost use Rattle.ale_declaration.specs.Distinct.{is_new, with_new};
+ghost use Rattle.ale_declaration.specs.Reading.{atoms_at, are_distinct};
 
+use crate::seen::Seen;
 use ale_term::{Lexeme, ReadError, add, atoms, is_word};
 use ale_text::{Row, Text};
 use std::alloc::{AllocError, Global};
@@ -31,36 +32,31 @@ pub(crate) fn some_atoms(
     Ok((names, behind))
 }
 
-/// Whether both names have the same characters.
-pub(crate) fn is_same(name: &Text, other: &Text) -> bool
-    ensures { result ≡ bytes_eq name.now other.now }
+/// Adds the name to those that came before, unless it is `_`; whether it is new, which `_` always is.
+#[tactic(auto, using(crate::proofs::Words::word_rules))]
+fn add_new(alloc: Global, seen: &mut Seen, name: &Text) -> Result<bool, AllocError>
+    ensures new { IfOk result (λ new. new ≡ is_new seen.old name.now) }
+    ensures seen { OnOk result (seen.new ≡ with_new seen.old name.now) }
 {
-    name.same(other)
-}
-
-/// Whether the name is among them.
-fn has_name(names: &[Text], name: &Text) -> bool
-    ensures { result ≡ has_name names.now name.now }
-{
-    for other in names {
-        if is_same(other, name) {
-            return true;
-        }
+    if is_word(name, "_") {
+        return Ok(true);
     }
-    false
+    let known = seen.has(name);
+    seen.add(alloc, name)?;
+    Ok(!known)
 }
 
 /// Whether no name stands twice, apart from `_`.
-#[tactic(auto, using(crate::proofs::Words::word_rules))]
-pub(crate) fn are_distinct(names: &[Text]) -> bool
-    ensures { result ≡ are_distinct names.now }
+pub(crate) fn are_distinct(alloc: Global, names: &[Text]) -> Result<bool, AllocError>
+    ensures { IfOk result (λ distinct. distinct ≡ are_distinct names.now) }
 {
+    let mut seen = Seen::new(alloc);
     let mut rest = names;
     while let [name, others @ ..] = rest {
-        if !is_word(name, "_") && has_name(others, name) {
-            return false;
+        if !add_new(alloc, &mut seen, name)? {
+            return Ok(false);
         }
         rest = others;
     }
-    true
+    Ok(true)
 }
