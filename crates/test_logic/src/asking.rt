@@ -1,12 +1,16 @@
 //! What is asked of written descriptions.
-ghost use Rattle.std.specs.Prelude.{IfOk, IfSome};
+ghost use Rattle.std.specs.Prelude.{IfOk};
 ghost use Rattle.ale_hierarchy.specs.Order.{hierarchy};
 ghost use Rattle.ale_logic.specs.Descriptions.{description, FitsDescription};
+ghost use Rattle.ale_describe.specs.Laws.{FitsNames};
 
-use crate::meanings::push_meaning;
+use crate::meanings::{Described, Refusal, meaning_of};
+use crate::refusals::push_refusal;
 use crate::searches::{push_part, push_search};
+use crate::writing::push_meaning;
+use ale_describe::Names;
 use ale_form::whole_description;
-use ale_resolve::{Described, NameError, describe, has_few_parts, is_plain};
+use ale_naming::names_of;
 use ale_signature::Signature;
 use ale_term::{Lexeme, Term, lexemes};
 use ale_token::tokens;
@@ -28,17 +32,6 @@ pub fn budget_of(text: &str) -> u64 {
     text.parse::<u64>().unwrap_or(0)
 }
 
-/// What a written description means; None where descriptions of its form are not built.
-fn described(alloc: Global, sig: &Signature, term: &Term) -> Option<Result<Described, NameError>>
-    ensures { IfSome result (λ r. IfOk r (λ d. FitsDescription (hierarchy sig.now) d.slots (description d.desc))) }
-{
-    if is_plain(term) && has_few_parts(term) {
-        Some(describe(alloc, sig, term))
-    } else {
-        None
-    }
-}
-
 /// Writes what is asked of a description that has a meaning.
 fn push_found(
     alloc: Global,
@@ -49,7 +42,7 @@ fn push_found(
 ) -> Result<(), AllocError>
     requires { FitsDescription (hierarchy sig.now) found.now.slots (description found.now.desc) }
 {
-    let slots = found.slots as usize;
+    let slots = found.slots;
     match question {
         Question::Meaning => push_meaning(sig, found, out),
         Question::Search(budget) => push_search(alloc, sig, &found.desc, slots, budget, out),
@@ -57,22 +50,38 @@ fn push_found(
     }
 }
 
-/// Writes why a description has no meaning.
-fn push_name_error(error: &NameError, out: &mut String) -> Result<(), AllocError> {
-    match error {
-        NameError::UnknownType(name) => {
-            let name = name.as_str();
-            write!(out, "UnknownType {name}\n")
-        }
-        NameError::UnknownFeature(name) => {
-            let name = name.as_str();
-            write!(out, "UnknownFeature {name}\n")
-        }
-        NameError::NoMemory => out.push_str("NoMemory\n"),
+/// Writes what is asked of a description, or why it has no meaning.
+fn push_described(
+    alloc: Global,
+    sig: &Signature,
+    described: &Result<Described, Refusal>,
+    question: Question,
+    out: &mut String,
+) -> Result<(), AllocError>
+    requires { IfOk described.now (λ d. FitsDescription (hierarchy sig.now) d.slots (description d.desc)) }
+{
+    match described {
+        Ok(found) => push_found(alloc, sig, found, question, out),
+        Err(refusal) => push_refusal(refusal, out),
     }
 }
 
-/// Writes what is asked of a written description.
+/// Writes what is asked of a written description by what names mean.
+fn push_named(
+    alloc: Global,
+    sig: &Signature,
+    names: &Names,
+    term: &Term,
+    question: Question,
+    out: &mut String,
+) -> Result<(), AllocError>
+    requires { FitsNames sig.now names.now }
+{
+    let found = meaning_of(alloc, sig, names, term)?;
+    push_described(alloc, sig, &found, question, out)
+}
+
+/// Writes what is asked of a written description in a grammar that has no macros.
 fn push_term(
     alloc: Global,
     sig: &Signature,
@@ -80,10 +89,9 @@ fn push_term(
     question: Question,
     out: &mut String,
 ) -> Result<(), AllocError> {
-    match &described(alloc, sig, term) {
-        Some(Ok(found)) => push_found(alloc, sig, found, question, out),
-        Some(Err(error)) => push_name_error(error, out),
-        None => out.push_str("not built\n"),
+    match &names_of(alloc, sig, &[]) {
+        Ok(names) => push_named(alloc, sig, names, term, question, out),
+        Err(_) => out.push_str("no names\n"),
     }
 }
 

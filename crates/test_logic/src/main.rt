@@ -11,9 +11,11 @@ mod graphs;
 mod meanings;
 mod morphisms;
 mod printing;
+mod refusals;
 mod relations;
 mod searches;
 mod signatures;
+mod writing;
 
 use ale_signature::{SigDecl, Signature};
 use asking::{Question, asked, budget_of};

@@ -1,71 +1,94 @@
-//! What descriptions mean: by types, features and slots, a word for each form before its parts.
-use crate::graphs::{feature_name, type_name};
+//! What written descriptions stand for.
+ghost use Rattle.std.specs.Prelude.{IfOk};
+ghost use Rattle.ale_hierarchy.specs.Order.{hierarchy};
+ghost use Rattle.ale_term.specs.Terms.{term_data};
+ghost use Rattle.ale_logic.specs.Descriptions.{description, FitsDescription};
+ghost use Rattle.ale_vocabulary.specs.First.{AllRight};
+ghost use Rattle.ale_vocabulary.specs.Knowing.{IsUnknown};
+ghost use Rattle.ale_vocabulary.specs.Mentions.{mentions};
+ghost use Rattle.ale_describe.specs.Laws.{FitsNames};
+
+use ale_describe::{Names, Scope, describe_law};
 use ale_logic::Desc;
-use ale_resolve::Described;
-use ale_signature::{FeatId, Signature};
-use std::alloc::AllocError;
+use ale_signature::Signature;
+use ale_stage::is_built;
+use ale_term::Term;
+use ale_text::{Row, Text};
+use ale_vocabulary::{NameError, first_unknown};
+use std::alloc::{AllocError, Global};
 
-/// Writes the features of a path.
-fn push_path(sig: &Signature, path: &[FeatId], out: &mut String) -> Result<(), AllocError> {
-    out.push_str(" [")?;
-    for feature in path {
-        let name = feature_name(sig, *feature);
-        write!(out, " {name}")?;
-    }
-    out.push_str(" ]")
+/// A description with its variables.
+#[derive(Drop)]
+pub struct Described {
+    /// The description; a variable stands in it by its slot.
+    pub desc: Desc,
+    /// How many slots there are.
+    pub slots: usize,
+    /// The name of each slot.
+    pub names: Row<Text>,
 }
 
-/// Writes a description, a word for each form before its parts.
-fn push_desc(sig: &Signature, desc: &Desc, out: &mut String) -> Result<(), AllocError> {
-    out.push_str(" (")?;
-    match desc {
-        Desc::OfType(of) => {
-            let name = type_name(sig, *of);
-            write!(out, "type {name}")?;
-        }
-        Desc::Slot(number) => write!(out, "slot {number}")?,
-        Desc::At(feature, value) => {
-            let name = feature_name(sig, *feature);
-            write!(out, "at {name}")?;
-            push_desc(sig, value.get(), out)?;
-        }
-        Desc::All(parts) => {
-            out.push_str("all")?;
-            for part in parts.as_slice() {
-                push_desc(sig, part, out)?;
-            }
-        }
-        Desc::Any(parts) => {
-            out.push_str("any")?;
-            for part in parts.as_slice() {
-                push_desc(sig, part, out)?;
-            }
-        }
-        Desc::Differs(other) => {
-            out.push_str("differs")?;
-            push_desc(sig, other.get(), out)?;
-        }
-        Desc::Meet(left, right) => {
-            out.push_str("meet")?;
-            push_path(sig, left.as_slice(), out)?;
-            push_path(sig, right.as_slice(), out)?;
-        }
-    }
-    out.push_str(")")
+/// Why a written description stands for none.
+#[derive(Drop)]
+pub enum Refusal {
+    /// It has a form that is not built.
+    Unbuilt,
+    /// A name stands for nothing, or it has too many parts.
+    Name(NameError),
 }
 
-/// Writes what a description means, with the names of its variables.
-pub fn push_meaning(
+/// What a description stands for whose names are all known.
+fn known(
+    alloc: Global,
     sig: &Signature,
-    described: &Described,
-    out: &mut String,
-) -> Result<(), AllocError> {
-    let slots = described.slots;
-    write!(out, "{slots} slots")?;
-    for name in described.names.as_slice() {
-        out.push_str(" ")?;
-        out.push_str(name.as_str())?;
+    names: &Names,
+    term: &Term,
+) -> Result<Described, AllocError>
+    requires names { FitsNames sig.now names.now }
+    requires known { AllRight (IsUnknown sig.now names.now.vocabulary) (mentions (term_data term.now)) }
+    ensures { IfOk result (λ d. FitsDescription (hierarchy sig.now) d.slots (description d.desc)) }
+{
+    describe_law();
+    let mut scope = Scope::new(alloc);
+    let desc = names.describe(alloc, sig, &mut scope, term)?;
+    let slots = scope.count();
+    let names = scope.slot_names(alloc)?;
+    Ok(Described { desc, slots, names })
+}
+
+/// What a description stands for whose names are all known, where it is not too large.
+fn limited(
+    alloc: Global,
+    sig: &Signature,
+    names: &Names,
+    term: &Term,
+) -> Result<Result<Described, Refusal>, AllocError>
+    requires names { FitsNames sig.now names.now }
+    requires known { AllRight (IsUnknown sig.now names.now.vocabulary) (mentions (term_data term.now)) }
+    ensures { IfOk result (λ r. IfOk r (λ d. FitsDescription (hierarchy sig.now) d.slots (description d.desc))) }
+{
+    if names.parts_after(alloc, sig, 0, term)?.is_none() {
+        return Ok(Err(Refusal::Name(NameError::TooBig)));
     }
-    push_desc(sig, &described.desc, out)?;
-    out.push('\n')
+    let found = known(alloc, sig, names, term)?;
+    Ok(Ok(found))
+}
+
+/// What a written description stands for by what names mean, or why it stands for none.
+pub fn meaning_of(
+    alloc: Global,
+    sig: &Signature,
+    names: &Names,
+    term: &Term,
+) -> Result<Result<Described, Refusal>, AllocError>
+    requires { FitsNames sig.now names.now }
+    ensures { IfOk result (λ r. IfOk r (λ d. FitsDescription (hierarchy sig.now) d.slots (description d.desc))) }
+{
+    if !is_built(term) {
+        return Ok(Err(Refusal::Unbuilt));
+    }
+    if let Some(error) = first_unknown(alloc, sig, names.vocabulary(), term)? {
+        return Ok(Err(Refusal::Name(error)));
+    }
+    limited(alloc, sig, names, term)
 }

@@ -36,10 +36,7 @@ fn push_error(error: &CommandError, out: &mut String) -> Result<(), AllocError> 
 }
 
 /// Writes what commands are read as.
-fn push_read(
-    read: &Result<Vec<Query>, CommandError>,
-    out: &mut String,
-) -> Result<(), AllocError> {
+fn push_read(read: &Result<Vec<Query>, CommandError>, out: &mut String) -> Result<(), AllocError> {
     match read {
         Ok(queries) => {
             for query in queries.as_slice() {

@@ -1,0 +1,3 @@
+mgsat [a,b].
+mgsat [X|T].
+mgsat (@twins(X), [_,b]).
