@@ -1,0 +1,4 @@
+pub mod Numbered
+pub mod Sought
+pub mod Turned
+pub mod Visits
