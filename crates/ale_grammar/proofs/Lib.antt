@@ -1,0 +1,12 @@
+mod Putting
+mod Going
+mod Sides
+mod Tying
+mod ResolveLaw
+mod LinesAreBound
+mod Parting
+mod Gathered
+mod ReadLines
+mod Keeping
+mod Assembled
+mod Answering

@@ -1,2 +1,12 @@
-//! The program that declarations make: definitions.
+//! The program that declarations make.
 #![tactic(auto)]
+
+mod building;
+mod grammar;
+mod laws;
+mod lines;
+mod making;
+mod pred;
+
+pub use grammar::{Resolved, resolve};
+pub use laws::{bound_law, resolve_law};
