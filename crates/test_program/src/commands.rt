@@ -57,11 +57,16 @@ fn asked(alloc: Global, loaded: &Loaded, bytes: &[u8]) -> Result<String, AllocEr
     Ok(out)
 }
 
+/// What commands are read as over a grammar that is not loaded yet.
+fn asked_over(alloc: Global, grammar: &[u8], bytes: &[u8]) -> Result<String, AllocError> {
+    match load(alloc, grammar) {
+        Ok(loaded) => asked(alloc, &loaded, bytes),
+        Err(_error) => String::from_str(alloc, "no grammar\n"),
+    }
+}
+
 /// What commands are read as over a grammar.
 pub fn commands_of(alloc: Global, grammar: &str, commands: &str) -> Result<String, AllocError> {
     let bytes = bytes_of(alloc, commands)?;
-    match &load(alloc, grammar.as_bytes()) {
-        Ok(loaded) => asked(alloc, loaded, bytes.as_slice()),
-        Err(_) => String::from_str(alloc, "no grammar\n"),
-    }
+    asked_over(alloc, grammar.as_bytes(), bytes.as_slice())
 }

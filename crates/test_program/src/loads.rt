@@ -103,10 +103,10 @@ fn push_error(error: &GrammarError, out: &mut String) -> Result<(), AllocError> 
 }
 
 /// Writes what a grammar is loaded as.
-fn push_read(read: &Result<Loaded, GrammarError>, out: &mut String) -> Result<(), AllocError> {
-    match read {
-        Ok(loaded) => push_loaded(loaded, out),
-        Err(error) => push_error(error, out),
+fn push_load(alloc: Global, bytes: &[u8], out: &mut String) -> Result<(), AllocError> {
+    match load(alloc, bytes) {
+        Ok(loaded) => push_loaded(&loaded, out),
+        Err(error) => push_error(&error, out),
     }
 }
 
@@ -114,7 +114,7 @@ fn push_read(read: &Result<Loaded, GrammarError>, out: &mut String) -> Result<()
 pub fn loaded(alloc: Global, text: &str) -> Result<String, AllocError> {
     let bytes = bytes_of(alloc, text)?;
     let mut out = String::new(alloc);
-    push_read(&load(alloc, bytes.as_slice()), &mut out)?;
+    push_load(alloc, bytes.as_slice(), &mut out)?;
     out.push('\n')?;
     Ok(out)
 }
