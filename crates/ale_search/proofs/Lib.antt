@@ -1,6 +1,9 @@
 pub mod Bare
 pub mod Meaning
+pub mod Nexts
 pub mod Numbered
+pub mod Onward
 pub mod Progress
+pub mod Stacked
 pub mod Turned
 pub mod Visits

@@ -1,0 +1,5 @@
+pub mod Tasks
+pub mod Satisfiers
+pub mod Promises
+pub mod Written
+pub mod Laws
