@@ -10,3 +10,5 @@ pub mod Declaring
 pub mod MacroLaws
 pub mod PlainDescriptions
 pub mod CallsHaveArities
+pub mod Meant
+pub mod PlainGoals

@@ -13,3 +13,5 @@ pub mod Laws
 pub mod Plain
 pub mod Arities
 pub mod PlainLaws
+pub mod Meanings
+pub mod MeaningLaws

@@ -11,9 +11,10 @@ use Rattle.ale_program.specs.Views.{clauses_data, program}
 use Rattle.ale_describe.specs.Names.{NamesData}
 use Rattle.ale_describe.specs.Macros.{names_of}
 use Rattle.ale_grammar.specs.Programs.{Part, part_of, semantics_in, lex_depth_in, chain_length_in, clause_in, first_or, program_of, usual_lex_depth, usual_chain_length}
+use Rattle.ale_grammar.specs.Written.{pred_key}
 use Rattle.ale_grammar.specs.Building.{Bucket, bucket, IsMade, Made, first_said, nothing_made, said_or, with_declarations}
 use Rattle.ale_grammar.specs.Assembling.{IsAssembled, bucket_of}
-use Rattle.ale_grammar.proofs.Tying.{constraints_all, words_all, empties_all, lex_rules_all, lines_all, rules_all, semantics_all, lex_depth_all, chain_length_all, all_buckets, said_first}
+use Rattle.ale_grammar.proofs.Tying.{constraints_all, words_all, empties_all, lex_rules_all, lex_rule_names_all, lines_all, rules_all, rule_names_all, semantics_all, lex_depth_all, chain_length_all, all_buckets, said_first}
 
 abbrev clauses_in : Bucket → List Clause
 clauses_in b = b.clauses
@@ -25,6 +26,17 @@ of_preds (p ∷ ps) = ap (λ (z : List (List Clause)). clauses_data p ∷ z) (of
 of_keys : (ps : List Part) (ks : List (List ℕ)) → map clauses_in (map (bucket_of ps) ks) ≡ map (λ k. flat_map (clause_in k) ps) ks
 of_keys ps [] = refl
 of_keys ps (k ∷ ks) = ap (λ (z : List (List Clause)). flat_map (clause_in k) ps ∷ z) (of_keys ps ks)
+
+abbrev key_in : Bucket → List ℕ
+key_in b = b.key
+
+keys_of_preds : (ps : List Pred) → map key_in (map bucket ps) ≡ map pred_key ps
+keys_of_preds [] = refl
+keys_of_preds (p ∷ ps) = ap (λ (z : List (List ℕ)). pred_key p ∷ z) (keys_of_preds ps)
+
+keys_of_keys : (ps : List Part) (ks : List (List ℕ)) → map key_in (map (bucket_of ps) ks) ≡ ks
+keys_of_keys ps [] = refl
+keys_of_keys ps (k ∷ ks) = ap (λ (z : List (List ℕ)). k ∷ z) (keys_of_keys ps ks)
 
 or_usual : (usual : ℕ) (ns : List ℕ) → said_or usual (first_said None ns) ≡ first_or usual ns
 or_usual usual [] = refl
@@ -63,7 +75,12 @@ module _ (d : Declared) (ds : List DeclarationData) where
         (is.lex_depth ∙ (ap (said_or usual_lex_depth) (lex_depth_all d names nothing_made ds) ∙ or_usual usual_lex_depth (flat_map lex_depth_in parts)))
         (is.chain_length ∙ (ap (said_or usual_chain_length) (chain_length_all d names nothing_made ds) ∙ or_usual usual_chain_length (flat_map chain_length_in parts)));
     preds = is.preds ∙ buckets;
-    lines = is.lines ∙ lines_all d names nothing_made ds;
+    written = record {
+      lex_rules = is.lex_rule_names ∙ lex_rule_names_all d names nothing_made ds;
+      lines = is.lines ∙ lines_all d names nothing_made ds;
+      rules = is.rule_names ∙ rule_names_all d names nothing_made ds;
+      predicates = sym (keys_of_preds p.preds) ∙ (ap (map key_in) (is.preds ∙ buckets) ∙ keys_of_keys parts names.vocabulary.predicates);
+    };
   }
     where
       buckets : all.buckets ≡ map (bucket_of parts) names.vocabulary.predicates

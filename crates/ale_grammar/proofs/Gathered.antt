@@ -44,9 +44,11 @@ use Rattle.ale_describe.specs.Declaring.{AreKnownDeclarations}
 use Rattle.ale_describe.specs.Laws.{FitsNames}
 use Rattle.ale_naming.specs.Places.{places_from}
 use Rattle.ale_naming.specs.Faults.{Fault, HasUnknown, HasMisplaced, AreRight, heads, has_daughter, two_heads, no_daughter}
-use Rattle.ale_grammar.specs.Programs.{Part, adds_clause, adds_constraint, adds_word, adds_empty, adds_lex_rule, adds_rule, sets_semantics, sets_lex_depth, sets_chain_length, adds_nothing, part_of, constraint_in, word_in, empty_in, lex_rule_in, rule_in, semantics_in, clause_in, if_of, first_in, program_with}
-use Rattle.ale_grammar.specs.Building.{Bucket, bucket, lines_of, lines_in}
+use Rattle.ale_grammar.specs.Programs.{Part, adds_clause, adds_constraint, adds_word, adds_empty, adds_lex_rule, adds_rule, sets_semantics, sets_lex_depth, sets_chain_length, adds_nothing, part_of, constraint_in, word_in, empty_in, lex_rule_in, rule_in, semantics_in, clause_in, if_of, first_in, program_with, program_of}
+use Rattle.ale_grammar.specs.Written.{lines_of, lines_in, pred_key}
+use Rattle.ale_grammar.specs.Building.{Bucket, bucket}
 use Rattle.ale_grammar.specs.Assembling.{HasBoundLines, HaveBoundLines, bucket_of, IsAssembled}
+use Rattle.ale_grammar.proofs.Gathering.{clause_told, constraint_told, word_told, empty_told, lex_rule_told, rule_told, semantics_told, gathered, has_numbered}
 use Rattle.ale_grammar.proofs.LinesAreBound.{lines_bound}
 use Rattle.ale_grammar.proofs.Parting.{ClauseFits, ConstraintFits, LexRuleFits, RuleFits, PartFits, IsPlaced, part_fits}
 
@@ -99,129 +101,6 @@ module _ (d : Declared) (names : NamesData) where
       subst (PartFits d names.vocabulary) (sym e) (part_fits d names x f known.0 (rule_placed calls v k before x placed.0))
   each_fits calls v k before (x ∷ xs) f known placed q (inr has) = each_fits calls v (suc k) (before ++ x ∷ []) xs f known.1 placed.1 q has
 
-module _ (d : Declared) (v : VocabularyData) where
-  from_constraint : (q : Part) → PartFits d v q → (c : plain.Constraint) → Has (constraint_in q) c → ConstraintFits d v c
-  from_constraint (adds_constraint x) fits c (inl e) = subst (ConstraintFits d v) (sym e) fits
-  from_constraint (adds_constraint x) fits c (inr has) = absurd has
-  from_constraint (adds_clause k x) fits c has = absurd has
-  from_constraint (adds_word x) fits c has = absurd has
-  from_constraint (adds_empty x) fits c has = absurd has
-  from_constraint (adds_lex_rule x) fits c has = absurd has
-  from_constraint (adds_rule x) fits c has = absurd has
-  from_constraint (sets_semantics x) fits c has = absurd has
-  from_constraint (sets_lex_depth x) fits c has = absurd has
-  from_constraint (sets_chain_length x) fits c has = absurd has
-  from_constraint adds_nothing fits c has = absurd has
-
-  abbrev WordFits : plain.WordDeclaration → Type 0
-  WordFits w = FitsDescription (hierarchy d) w.slots w.desc
-
-  from_word : (q : Part) → PartFits d v q → (w : plain.WordDeclaration) → Has (word_in q) w → WordFits w
-  from_word (adds_word x) fits w (inl e) = subst WordFits (sym e) fits
-  from_word (adds_word x) fits w (inr has) = absurd has
-  from_word (adds_clause k x) fits w has = absurd has
-  from_word (adds_constraint x) fits w has = absurd has
-  from_word (adds_empty x) fits w has = absurd has
-  from_word (adds_lex_rule x) fits w has = absurd has
-  from_word (adds_rule x) fits w has = absurd has
-  from_word (sets_semantics x) fits w has = absurd has
-  from_word (sets_lex_depth x) fits w has = absurd has
-  from_word (sets_chain_length x) fits w has = absurd has
-  from_word adds_nothing fits w has = absurd has
-
-  abbrev EmptyFits : plain.EmptyDeclaration → Type 0
-  EmptyFits e = FitsDescription (hierarchy d) e.slots e.desc
-
-  from_empty : (q : Part) → PartFits d v q → (x : plain.EmptyDeclaration) → Has (empty_in q) x → EmptyFits x
-  from_empty (adds_empty y) fits x (inl e) = subst EmptyFits (sym e) fits
-  from_empty (adds_empty y) fits x (inr has) = absurd has
-  from_empty (adds_clause k y) fits x has = absurd has
-  from_empty (adds_constraint y) fits x has = absurd has
-  from_empty (adds_word y) fits x has = absurd has
-  from_empty (adds_lex_rule y) fits x has = absurd has
-  from_empty (adds_rule y) fits x has = absurd has
-  from_empty (sets_semantics y) fits x has = absurd has
-  from_empty (sets_lex_depth y) fits x has = absurd has
-  from_empty (sets_chain_length y) fits x has = absurd has
-  from_empty adds_nothing fits x has = absurd has
-
-  from_lex_rule : (q : Part) → PartFits d v q → (r : plain.LexicalRule) → Has (lex_rule_in q) r → LexRuleFits d v r
-  from_lex_rule (adds_lex_rule x) fits r (inl e) = subst (LexRuleFits d v) (sym e) fits
-  from_lex_rule (adds_lex_rule x) fits r (inr has) = absurd has
-  from_lex_rule (adds_clause k x) fits r has = absurd has
-  from_lex_rule (adds_constraint x) fits r has = absurd has
-  from_lex_rule (adds_word x) fits r has = absurd has
-  from_lex_rule (adds_empty x) fits r has = absurd has
-  from_lex_rule (adds_rule x) fits r has = absurd has
-  from_lex_rule (sets_semantics x) fits r has = absurd has
-  from_lex_rule (sets_lex_depth x) fits r has = absurd has
-  from_lex_rule (sets_chain_length x) fits r has = absurd has
-  from_lex_rule adds_nothing fits r has = absurd has
-
-  from_rule : (q : Part) → PartFits d v q → (r : plain.Rule) → Has (rule_in q) r → RuleFits d v r
-  from_rule (adds_rule x) fits r (inl e) = subst (RuleFits d v) (sym e) fits
-  from_rule (adds_rule x) fits r (inr has) = absurd has
-  from_rule (adds_clause k x) fits r has = absurd has
-  from_rule (adds_constraint x) fits r has = absurd has
-  from_rule (adds_word x) fits r has = absurd has
-  from_rule (adds_empty x) fits r has = absurd has
-  from_rule (adds_lex_rule x) fits r has = absurd has
-  from_rule (sets_semantics x) fits r has = absurd has
-  from_rule (sets_lex_depth x) fits r has = absurd has
-  from_rule (sets_chain_length x) fits r has = absurd has
-  from_rule adds_nothing fits r has = absurd has
-
-  abbrev SemanticsFits : ℕ → Type 0
-  SemanticsFits s = slice_get (arities v) s ≡ Some 2
-
-  from_semantics : (q : Part) → PartFits d v q → (s : ℕ) → Has (semantics_in q) s → SemanticsFits s
-  from_semantics (sets_semantics x) fits s (inl e) = subst SemanticsFits (sym e) fits
-  from_semantics (sets_semantics x) fits s (inr has) = absurd has
-  from_semantics (adds_clause k x) fits s has = absurd has
-  from_semantics (adds_constraint x) fits s has = absurd has
-  from_semantics (adds_word x) fits s has = absurd has
-  from_semantics (adds_empty x) fits s has = absurd has
-  from_semantics (adds_lex_rule x) fits s has = absurd has
-  from_semantics (adds_rule x) fits s has = absurd has
-  from_semantics (sets_lex_depth x) fits s has = absurd has
-  from_semantics (sets_chain_length x) fits s has = absurd has
-  from_semantics adds_nothing fits s has = absurd has
-
-  if_fits : (p k : List ℕ) (x c : plain.Clause) → ClauseFits d v k x → Has (if_of p k x) c → ClauseFits d v p c
-  if_fits p k x c fits has = go (same_name k p) refl
-    where
-      one : (b : Bool) → same_name k p ≡ b → b ≡ true → Has (x ∷ []) c → ClauseFits d v p c
-      one b e t (inl q) = subst (ClauseFits d v p) (sym q) (subst (λ z. ClauseFits d v z x) (same_name_to k p (e ∙ t)) fits)
-      one b e t (inr more) = absurd more
-
-      go : (b : Bool) → same_name k p ≡ b → ClauseFits d v p c
-      go true e = let there : Has (x ∷ []) c = rw e at has in one true e refl there
-      go false e = let there : Has {A = plain.Clause} [] c = rw e at has in absurd there
-
-  from_clause : (p : List ℕ) (q : Part) → PartFits d v q → (c : plain.Clause) → Has (clause_in p q) c → ClauseFits d v p c
-  from_clause p (adds_clause k x) fits c has = if_fits p k x c fits has
-  from_clause p (adds_constraint x) fits c has = absurd has
-  from_clause p (adds_word x) fits c has = absurd has
-  from_clause p (adds_empty x) fits c has = absurd has
-  from_clause p (adds_lex_rule x) fits c has = absurd has
-  from_clause p (adds_rule x) fits c has = absurd has
-  from_clause p (sets_semantics x) fits c has = absurd has
-  from_clause p (sets_lex_depth x) fits c has = absurd has
-  from_clause p (sets_chain_length x) fits c has = absurd has
-  from_clause p adds_nothing fits c has = absurd has
-
-  gathered : {A : Type 0} (f : Part → List A) (Q : A → Type 0) → ((q : Part) → PartFits d v q → (a : A) → Has (f q) a → Q a) →
-      (ps : List Part) → ((q : Part) → Has ps q → PartFits d v q) → (a : A) → Has (flat_map f ps) a → Q a
-  gathered f Q each ps all a has =
-      let there = flat_map_has f ps a has in
-      each there.0 (all there.0 there.1) a there.2
-
--- a list that is looked up by its number is one of the lists, or empty
-has_numbered : {A : Type 0} (f : List ℕ → List A) (ks : List (List ℕ)) (n : ℕ) (a : A) → Has (get_or (map f ks) n []) a → (k : List ℕ) × Has (f k) a
-has_numbered f [] n a has = absurd has
-has_numbered f (k ∷ ks) zero a has = (k, has)
-has_numbered f (k ∷ ks) (suc n) a has = has_numbered f ks n a has
-
 first_has : {A : Type 0} (xs : List A) (x : A) → first_in xs ≡ Some x → Has xs x
 first_has [] x e = absurd cc
 first_has (y ∷ ys) x e = let q : x ≡ y = cc in inl q
@@ -236,34 +115,31 @@ module _ (d : Declared) (names : NamesData) (ps : List Part) (all : (q : Part) �
   clauses_by k = flat_map (clause_in k) ps
 
   clause_in_it : (k : List ℕ) (c : plain.Clause) → Has (clauses_by k) c → ClauseFits d names.vocabulary k c
-  clause_in_it k = gathered d names.vocabulary (clause_in k) (ClauseFits d names.vocabulary k) (from_clause d names.vocabulary k) ps all
+  clause_in_it k = gathered (clause_in k) (adds_clause k) (PartFits d names.vocabulary) (clause_told k) ps all
 
   constraint_in_it : (c : plain.Constraint) → Has (program_with d names ps).constraints c → ConstraintFits d names.vocabulary c
-  constraint_in_it = gathered d names.vocabulary constraint_in (ConstraintFits d names.vocabulary) (from_constraint d names.vocabulary) ps all
+  constraint_in_it = gathered constraint_in adds_constraint (PartFits d names.vocabulary) constraint_told ps all
 
   lex_rule_in_it : (r : plain.LexicalRule) → Has (program_with d names ps).lex_rules r → LexRuleFits d names.vocabulary r
-  lex_rule_in_it = gathered d names.vocabulary lex_rule_in (LexRuleFits d names.vocabulary) (from_lex_rule d names.vocabulary) ps all
+  lex_rule_in_it = gathered lex_rule_in adds_lex_rule (PartFits d names.vocabulary) lex_rule_told ps all
 
   rule_in_it : (r : plain.Rule) → Has (program_with d names ps).rules r → RuleFits d names.vocabulary r
-  rule_in_it = gathered d names.vocabulary rule_in (RuleFits d names.vocabulary) (from_rule d names.vocabulary) ps all
+  rule_in_it = gathered rule_in adds_rule (PartFits d names.vocabulary) rule_told ps all
 
   semantics_in_it : (s : ℕ) → (program_with d names ps).semantics ≡ Some s → slice_get (arities names.vocabulary) s ≡ Some 2
   semantics_in_it s e =
-      gathered d names.vocabulary semantics_in (SemanticsFits d names.vocabulary) (from_semantics d names.vocabulary) ps all s (first_has (flat_map semantics_in ps) s e)
+      gathered semantics_in sets_semantics (PartFits d names.vocabulary) semantics_told ps all s (first_has (flat_map semantics_in ps) s e)
 
   program_fits : IsLawful (hierarchy d) → FitsProgram (hierarchy d) (program_with d names ps)
   program_fits lawful = record {
     clauses = λ p c has. let there = has_numbered clauses_by names.vocabulary.predicates p c has in (clause_in_it there.0 c there.1).fits;
     constraints = λ c has. (constraint_in_it c has).fits;
     rules = λ r has. (rule_in_it r has).fits;
-    words = gathered d names.vocabulary word_in (WordFits d names.vocabulary) (from_word d names.vocabulary) ps all;
-    empties = gathered d names.vocabulary empty_in (EmptyFits d names.vocabulary) (from_empty d names.vocabulary) ps all;
+    words = gathered word_in adds_word (PartFits d names.vocabulary) word_told ps all;
+    empties = gathered empty_in adds_empty (PartFits d names.vocabulary) empty_told ps all;
     lex_rules = λ r has. (lex_rule_in_it r has).fits;
     lists = λ l e. lists_fit d l lawful e;
   }
-
-abbrev key_of : Pred → List ℕ
-key_of q = key q.name q.arity
 
 -- Parts with these buckets.
 abbrev bucket_arity : Bucket → ℕ
@@ -302,6 +178,15 @@ all_lines_bound ds bound ls has =
     let there = flat_map_has lines_of ds ls has in
     lines_of_one there.0 (one_of_them ds bound there.0 there.1) ls there.2
 
+-- The parts of declarations that are right fit, and so does their program.
+module _ (d : Declared) (ds : List DeclarationData) (fits : FitsNames d (names_of d ds)) (right : AreRight d ds) where
+  right_parts_fit : (q : Part) → Has (map (part_of d (names_of d ds)) ds) q → PartFits d (vocabulary_of ds) q
+  right_parts_fit q has =
+      each_fits d (names_of d ds) (calls_of (names_of d ds).library.macros) (vocabulary_of ds) 1 [] ds fits (all_right d (vocabulary_of ds) 1 [] ds right.known) right.placed q has
+
+  pub right_program_fits : IsLawful (hierarchy d) → FitsProgram (hierarchy d) (program_of d ds)
+  right_program_fits lawful = program_fits d (names_of d ds) (map (part_of d (names_of d ds)) ds) right_parts_fit lawful
+
 module _ (d : Declared) (ds : List DeclarationData) (p : Parts) (fits : FitsNames d (names_of d ds)) (right : AreRight d ds) (told : HaveBoundLines ds) (made : IsAssembled d ds p) where
   abbrev names : NamesData
   names = names_of d ds
@@ -313,8 +198,7 @@ module _ (d : Declared) (ds : List DeclarationData) (p : Parts) (fits : FitsName
   all_parts = map (part_of d (names_of d ds)) ds
 
   parts_fit : (q : Part) → Has all_parts q → PartFits d v q
-  parts_fit q has =
-      each_fits d names (calls_of (names_of d ds).library.macros) v 1 [] ds fits (all_right d v 1 [] ds right.known) right.placed q has
+  parts_fit q has = right_parts_fit d ds fits right q has
 
   arities_are : kept.arities p ≡ arities v
   arities_are = sym (arities_of_preds p.preds) ∙ (ap (map bucket_arity) made.preds ∙ arities_of_keys all_parts v.predicates)
@@ -322,7 +206,7 @@ module _ (d : Declared) (ds : List DeclarationData) (p : Parts) (fits : FitsName
   calls_fit : (g : Goal) → CallsFit (arities v) g → CallsFit (kept.arities p) g
   calls_fit g h = subst (λ ns. CallsFit ns g) (sym arities_are) h
 
-  clause_in_pred : (q : Pred) (c : Clause) → Has p.preds q → Has q.clauses c → ClauseFits d v (key_of q) (clause_data c)
+  clause_in_pred : (q : Pred) (c : Clause) → Has p.preds q → Has q.clauses c → ClauseFits d v (pred_key q) (clause_data c)
   clause_in_pred q c has here =
       let there = map_has (bucket_of all_parts) v.predicates (bucket q) (subst (λ bs. Has bs (bucket q)) made.preds (Has-map bucket p.preds q has)) in
       let k : List ℕ = there.0 in
@@ -352,7 +236,7 @@ module _ (d : Declared) (ds : List DeclarationData) (p : Parts) (fits : FitsName
   fits_signature : IsLawful (hierarchy d) → FitsProgram (hierarchy p.signature) (program p)
   fits_signature lawful =
       subst (λ s. FitsProgram (hierarchy s) (program p)) (sym made.signature)
-      (subst (FitsProgram (hierarchy d)) (sym made.program) (program_fits d names all_parts parts_fit lawful))
+      (subst (FitsProgram (hierarchy d)) (sym made.program) (right_program_fits d ds fits right lawful))
 
   semantics_there : (s : ℕ) → p.semantics ≡ Some s → slice_get (kept.arities p) s ≡ Some 2
   semantics_there s e =
@@ -360,7 +244,7 @@ module _ (d : Declared) (ds : List DeclarationData) (p : Parts) (fits : FitsName
       semantics_in_it d names all_parts parts_fit s (sym (ap (λ (g : Program). g.semantics) made.program) ∙ e)
 
   lines_there : (r : LexRule) → Has p.lex_rules r → AreBound r.lines
-  lines_there r has = all_lines_bound ds told r.lines (subst (λ ls. Has ls r.lines) made.lines (Has-map lines_in p.lex_rules r has))
+  lines_there r has = all_lines_bound ds told r.lines (subst (λ ls. Has ls r.lines) made.written.lines (Has-map lines_in p.lex_rules r has))
 
   lists_there : (r : plain.Rule) (x : Description) → Has (program p).rules r → Has r.elements (plain.cats x) → (l : ListTypes) × (lists_in p.signature ≡ Some l)
   lists_there r x has here =

@@ -3,9 +3,12 @@ mod Going
 mod Sides
 mod Tying
 mod ResolveLaw
-mod LinesAreBound
+pub mod LinesAreBound
 mod Parting
+mod Gathering
 mod Gathered
+mod Fragment
+mod GrammarLaw
 mod ReadLines
 mod Keeping
 mod Assembled

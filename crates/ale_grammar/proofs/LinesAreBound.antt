@@ -10,11 +10,13 @@ use Rattle.ale_declaration.specs.Forms as forms
 use Rattle.ale_declaration.specs.declared.declaration.LinePart.{LinePart}
 use Rattle.ale_declaration.specs.declared.declaration.LinePart.TheVariants as written
 use Rattle.ale_declaration.specs.declared.declaration.MorphLine.{MorphLine}
+use Rattle.ale_declaration.specs.declared.declaration.Declaration.{Declaration}
+use Rattle.ale_declaration.specs.Declarations.{declaration_data}
 use Rattle.ale_morph.specs.declared.line.Piece.{Piece}
 use Rattle.ale_morph.specs.Bound.{stands, stand_in, is_bound, are_bound, AreBound}
 use Rattle.ale_describe.specs.Variables.{anonymous, is_anonymous, slot_of, with_variable}
 use Rattle.ale_grammar.specs.Lines.{side_after, line_of}
-use Rattle.ale_grammar.specs.Assembling.{AreBoundLines}
+use Rattle.ale_grammar.specs.Assembling.{AreBoundLines, HasBoundLines, HaveBoundLines}
 
 -- a name keeps its number where others come behind
 number_kept : (vs us : List (List ℕ)) (x : List ℕ) → Has vs x → number (vs ++ us) x ≡ number vs x
@@ -149,3 +151,9 @@ all_bound (l ∷ ls) told = both_true (is_bound (line_of l)) (are_bound (map lin
 
 pub lines_bound : (ls : List MorphLine) → AreBoundLines ls → AreBound (map line_of ls)
 lines_bound ls told = let e = all_bound ls told in cc
+
+-- declarations that are read one after another
+pub bound_after : (xs : List Declaration) (x : Declaration) → HaveBoundLines (map declaration_data xs) → HasBoundLines (declaration_data x) →
+    HaveBoundLines (map declaration_data (xs ++ x ∷ []))
+bound_after [] x all one = (one, tt)
+bound_after (y ∷ ys) x all one = (all.0, bound_after ys x all.1 one)

@@ -16,7 +16,8 @@ use Rattle.ale_vocabulary.specs.Keys.{key}
 use Rattle.ale_vocabulary.specs.Vocabularies.{predicate_key, keys_by}
 use Rattle.ale_describe.specs.Names.{NamesData}
 use Rattle.ale_grammar.specs.Programs.{Part, part_of, clause_of, if_of, clause_in, first_in, constraint_in, word_in, empty_in, lex_rule_in, rule_in, semantics_in, lex_depth_in, chain_length_in}
-use Rattle.ale_grammar.specs.Building.{Bucket, put_where, with_all, first_said, Made, with_declaration, with_declarations, nothing_made, lines_of}
+use Rattle.ale_grammar.specs.Building.{Bucket, put_where, with_all, first_said, Made, with_declaration, with_declarations, nothing_made}
+use Rattle.ale_grammar.specs.Written.{lex_rule_names_of, lines_of, rule_names_of}
 use Rattle.ale_grammar.specs.Assembling.{bucket_of}
 
 -- Lists that grow at the end, and what is said first.
@@ -72,6 +73,14 @@ module _ (d : Declared) (names : NamesData) where
   pub lines_all : (m : Made) (xs : List DeclarationData) → (made_of m xs).lines ≡ m.lines ++ flat_map lines_of xs
   lines_all m [] = sym (append-nil m.lines)
   lines_all m (x ∷ xs) = lines_all (with_declaration d names m x) xs ∙ then_all m.lines (lines_of x) (flat_map lines_of xs)
+
+  pub lex_rule_names_all : (m : Made) (xs : List DeclarationData) → (made_of m xs).lex_rule_names ≡ m.lex_rule_names ++ flat_map lex_rule_names_of xs
+  lex_rule_names_all m [] = sym (append-nil m.lex_rule_names)
+  lex_rule_names_all m (x ∷ xs) = lex_rule_names_all (with_declaration d names m x) xs ∙ then_all m.lex_rule_names (lex_rule_names_of x) (flat_map lex_rule_names_of xs)
+
+  pub rule_names_all : (m : Made) (xs : List DeclarationData) → (made_of m xs).rule_names ≡ m.rule_names ++ flat_map rule_names_of xs
+  rule_names_all m [] = sym (append-nil m.rule_names)
+  rule_names_all m (x ∷ xs) = rule_names_all (with_declaration d names m x) xs ∙ then_all m.rule_names (rule_names_of x) (flat_map rule_names_of xs)
 
   pub semantics_all : (m : Made) (xs : List DeclarationData) → (made_of m xs).semantics ≡ first_said m.semantics (flat_map semantics_in (parts xs))
   semantics_all m [] = sym (said_nothing m.semantics)

@@ -10,7 +10,8 @@ use Rattle.ale_program.specs.Views.{program}
 use Rattle.ale_describe.specs.Names.{NamesData}
 use Rattle.ale_describe.specs.Macros.{names_of}
 use Rattle.ale_grammar.specs.Programs.{Part, part_of, clause_in, program_of}
-use Rattle.ale_grammar.specs.Building.{Bucket, bucket, lines_in, lines_of}
+use Rattle.ale_grammar.specs.Written.{KeepsWritten}
+use Rattle.ale_grammar.specs.Building.{Bucket, bucket}
 
 -- in each line each variable of the right side stands in the left side, and no `_` stands in the right side
 abbrev pub AreBoundLines : List MorphLine → Type 0
@@ -48,4 +49,4 @@ pub record IsAssembled (d : Declared) (ds : List DeclarationData) (p : Parts) : 
   pub signature : p.signature ≡ d
   pub program : program p ≡ program_of d ds
   pub preds : map bucket p.preds ≡ buckets_of d (names_of d ds) ds
-  pub lines : map lines_in p.lex_rules ≡ flat_map lines_of ds
+  pub written : KeepsWritten p ds

@@ -1,8 +1,10 @@
 pub mod Lines
 pub mod Programs
 pub mod Resolving
+pub mod Written
 pub mod Building
 pub mod Sides
 pub mod Assembling
+pub mod PlainGoals
 pub mod Laws
 pub mod Answers

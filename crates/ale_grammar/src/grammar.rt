@@ -11,6 +11,7 @@ ghost use Rattle.ale_grammar.specs.Assembling.{HaveBoundLines, IsAssembled};
 ghost use Rattle.ale_grammar.specs.Building.{IsMade, made, said_or};
 ghost use Rattle.ale_grammar.specs.Laws.{resolved_by};
 ghost use Rattle.ale_grammar.specs.Programs.{program_of, usual_chain_length, usual_lex_depth};
+ghost use Rattle.ale_grammar.specs.Written.{KeepsWritten};
 ghost use Rattle.ale_grammar.specs.Resolving.{IsResolved, ResolvedData, resolved_of};
 
 use crate::building::{Building, built};
@@ -108,7 +109,9 @@ fn program_of(
     requires right { AreRight signature (map declaration_data decls.now) }
     requires fits { FitsNames signature names.now }
     requires bound { HaveBoundLines (map declaration_data decls.now) }
-    ensures { IfOk result (λ p. program p ≡ program_of signature (map declaration_data decls.now)) }
+    ensures program { IfOk result (λ p. program p ≡ program_of signature (map declaration_data decls.now)) }
+    ensures written { IfOk result (λ p. KeepsWritten p (map declaration_data decls.now)) }
+    ensures signature { IfOk result (λ p. p.signature ≡ signature) }
 {
     signature.built_law();
     let parts = assembled(alloc, signature, names, decls)?;
@@ -126,7 +129,9 @@ fn with_names(
     requires right { AreRight signature (map declaration_data decls.now) }
     requires fits { FitsNames signature names }
     requires bound { HaveBoundLines (map declaration_data decls.now) }
-    ensures { ResolvedGives result (Ok (resolved_of signature (map declaration_data decls.now))) }
+    ensures exact { ResolvedGives result (Ok (resolved_of signature (map declaration_data decls.now))) }
+    ensures written { IfOk result (λ r. KeepsWritten r.program (map declaration_data decls.now)) }
+    ensures signature { IfOk result (λ r. r.program.signature ≡ signature) }
 {
     match program_of(alloc, signature, &names, decls) {
         Ok(program) => Ok(Resolved { program, names }),
@@ -141,7 +146,9 @@ fn by_names(
     decls: &[Declaration],
 ) -> Result<Resolved, NameFault>
     requires bound { HaveBoundLines (map declaration_data decls.now) }
-    ensures { ResolvedGives result (resolved_by signature (map declaration_data decls.now)) }
+    ensures exact { ResolvedGives result (resolved_by signature (map declaration_data decls.now)) }
+    ensures written { IfOk result (λ r. KeepsWritten r.program (map declaration_data decls.now)) }
+    ensures signature { IfOk result (λ r. r.program.signature ≡ signature) }
 {
     match names_of(alloc, &signature, decls) {
         Ok(names) => with_names(alloc, signature, names, decls),
@@ -151,8 +158,9 @@ fn by_names(
 
 /// The program of these declarations over this signature, and what their names mean. Descriptions and goals of one declaration
 /// share their variables; clauses are by predicate in order of its first clause, everything else is in order of declaration; of
-/// each directive the first counts. The declarations are such as `read_declaration` gives: each variable on the right side of a
-/// line of morphology stands on its left side.
+/// each directive the first counts. Rules, lexical rules and predicates keep their names, and lines of morphology their letters and
+/// variables, which are numbered in order of first occurrence. The declarations are such as `read_declaration` gives: each variable
+/// on the right side of a line of morphology stands on its left side.
 ///
 /// # Errors
 ///
@@ -171,6 +179,8 @@ pub fn resolve(
 ) -> Result<Resolved, NameFault>
     requires bound { HaveBoundLines (map declaration_data decls.now) }
     ensures exact { ResolvedGives result (resolved_by signature (map declaration_data decls.now)) }
+    ensures written { IfOk result (λ r. KeepsWritten r.program (map declaration_data decls.now)) }
+    ensures signature { IfOk result (λ r. r.program.signature ≡ signature) }
     ensures found { MatchResult result (λ r. IsResolved signature (map declaration_data decls.now) (Ok (resolved_data r))) (λ e. IsTold (IsResolved signature (map declaration_data decls.now)) e) }
     ensures only { (answer : Result ResolvedData Fault) → IsResolved signature (map declaration_data decls.now) answer → ResolvedGives result answer }
 {

@@ -1,11 +1,21 @@
 //! What holds of all declarations.
-ghost use Rattle.ale_grammar.specs.Laws.{BoundLaw, ResolveLaw};
+ghost use Rattle.ale_grammar.specs.Laws.{BoundLaw, ProgramsArePlain, ProgramsFit, ResolvedNamesFit, ResolveLaw};
 
 use ale_naming::naming_law;
 
 /// Declarations are resolved to one program or refused for one fault, which the function that `resolve` carries out gives.
 pub fn resolve_law()
     ensures { ResolveLaw }
+{
+    naming_law();
+}
+
+/// The program that declarations are resolved to fits a signature that obeys the laws of a hierarchy, and what its names mean
+/// does; no cut, negation, if-then or if-then-else stands in it where none is written in the declarations' goals.
+pub fn grammar_law()
+    ensures fit { ProgramsFit }
+    ensures names { ResolvedNamesFit }
+    ensures plain { ProgramsArePlain }
 {
     naming_law();
 }

@@ -9,4 +9,4 @@ mod making;
 mod pred;
 
 pub use grammar::{Resolved, resolve};
-pub use laws::{bound_law, resolve_law};
+pub use laws::{bound_law, grammar_law, resolve_law};

@@ -186,6 +186,7 @@ fn with_lines(
     lines: &[MorphLine],
 ) -> Result<LexRule, AllocError>
     ensures rule { IfOk result (λ r. lex_rule_data r ≡ with_lines sides lines.now) }
+    ensures name { IfOk result (λ r. r.name ≡ name.now) }
     ensures lines { IfOk result (λ r. r.lines ≡ map line_of lines.now) }
 {
     let lines = lines_of(alloc, lines)?;
@@ -219,6 +220,7 @@ pub(crate) fn lex_rule_of(
 ) -> Result<LexRule, AllocError>
     requires known { AllRight (IsUnknown sig.now names.now.vocabulary) (mentions (term_data input.now) ++ mentions (term_data output.now) ++ mentions_of_some (option_map written.goal_data goal.now)) }
     ensures rule { IfOk result (λ r. lex_rule_data r ≡ lex_rule_of sig.now names.now (term_data input.now) (term_data output.now) (option_map written.goal_data goal.now) lines.now) }
+    ensures name { IfOk result (λ r. r.name ≡ name.now) }
     ensures lines { IfOk result (λ r. r.lines ≡ map line_of lines.now) }
 {
     let sides = sides_of(alloc, sig, names, input, output, goal)?;
@@ -285,7 +287,8 @@ pub(crate) fn rule_of(
     parts: &[Part],
 ) -> Result<Rule, AllocError>
     requires known { AllRight (IsUnknown sig.now names.now.vocabulary) (mentions_of_declaration (declaration.rule name.now (term_data mother.now) (map declaration.element_data parts.now))) }
-    ensures { IfOk result (λ r. rule_data r ≡ rule_of sig.now names.now (term_data mother.now) (map declaration.element_data parts.now)) }
+    ensures name { IfOk result (λ r. r.name ≡ name.now) }
+    ensures rule { IfOk result (λ r. rule_data r ≡ rule_of sig.now names.now (term_data mother.now) (map declaration.element_data parts.now)) }
 {
     let mut scope = Scope::new(alloc);
     let mother = names.describe(alloc, sig, &mut scope, mother)?;

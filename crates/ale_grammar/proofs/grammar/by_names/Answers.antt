@@ -12,7 +12,15 @@ with_names-requires c = record {
 }
 
 pub returns-in-Ok : goal.returns-in-Ok
-returns-in-Ok c = goes c.args.signature (map declaration_data c.args.decls.now) c.in-Ok.names c.with_names.result c.in-Ok.ensures.found c.in-Ok.ensures.exact c.with_names.ensures
+returns-in-Ok c = record {
+  exact = goes c.args.signature (map declaration_data c.args.decls.now) c.in-Ok.names c.with_names.result c.in-Ok.ensures.found c.in-Ok.ensures.exact c.with_names.ensures.exact;
+  written = c.with_names.ensures.written;
+  signature = c.with_names.ensures.signature;
+}
 
 pub returns-in-Err : goal.returns-in-Err
-returns-in-Err c = stops c.args.signature (map declaration_data c.args.decls.now) c.in-Err.fault c.in-Err.ensures.exact
+returns-in-Err c = record {
+  exact = stops c.args.signature (map declaration_data c.args.decls.now) c.in-Err.fault c.in-Err.ensures.exact;
+  written = tt;
+  signature = tt;
+}
